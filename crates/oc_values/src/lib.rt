@@ -1,0 +1,12 @@
+//! What every layer speaks of: lists, names, want of memory, and whole numbers in two's complement.
+//!
+//! Nothing here knows of programs. `Items` is a list, `Name` a list of bytes, `NoMemory` the one answer
+//! for want of memory. `IntKind` is a kind of integer of the language, and `wrap`, `convert` and
+//! `public_op` are its arithmetic, by the definitions of `specs/Integers.antt`.
+#![tactic(auto)]
+
+pub mod integers;
+pub mod lists;
+
+pub use integers::{BinaryOp, IntKind, ZeroDivisor, convert, public_op, wrap};
+pub use lists::{Boxed, Items, Name, NoMemory};
