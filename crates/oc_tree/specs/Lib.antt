@@ -1,0 +1,9 @@
+pub mod Types
+pub mod Memory
+pub mod Typing
+pub mod Domain
+pub mod Walking
+pub mod Values
+pub mod Walk
+pub mod Clear
+pub mod Shown
