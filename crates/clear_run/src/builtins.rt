@@ -2,7 +2,6 @@
 
 ghost use Rattle.std.specs.Prelude.{◌≡◌, IfOk};
 ghost use Rattle.std.specs.Option.{option_map};
-ghost use Rattle.oc_values.specs.Integers.{width as bits};
 ghost use Rattle.oc_tree.specs.Walking.{still, transfers};
 ghost use Rattle.oc_tree.specs.Values.{formatted};
 ghost use Rattle.oc_tree.specs.Walk.{performs, word, feeds, reveals, prints, cost};
@@ -27,19 +26,6 @@ fn words_of(setup: &ClearSetup, party: u8) -> &Items<i64>
         &setup.first
     } else {
         &setup.second
-    }
-}
-
-/// The bits of a kind, which are the transfers that a word of the second party uses.
-fn width(kind: IntKind) -> u32
-    ensures { result ≡ bits kind }
-{
-    match kind {
-        IntKind::Bool => 1,
-        IntKind::I8 | IntKind::U8 => 8,
-        IntKind::I16 | IntKind::U16 => 16,
-        IntKind::I32 | IntKind::U32 => 32,
-        IntKind::I64 | IntKind::U64 => 64,
     }
 }
 
@@ -68,7 +54,7 @@ fn pay(m: &mut Machine<'_>, needed: u32) -> Result<(), Fault>
 fn price(party: u8, kind: IntKind) -> u32
     ensures { result ≡ cost party kind }
 {
-    if party == 1 { 0 } else { width(kind) }
+    if party == 1 { 0 } else { kind.width() }
 }
 
 /// A private word that was sought before the transfers are counted.

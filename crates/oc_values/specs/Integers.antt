@@ -58,14 +58,6 @@ is_in_bits false w (negsuc n) = false
 abbrev pub IsOfKind : IntKind → ℤ → Type 0
 IsOfKind k z = IsTrue (is_in_bits (is_signed k) (width k) z)
 
--- the first number past the greatest of a kind
-abbrev pub end_of_bits : Bool → ℕ → ℕ
-end_of_bits true w = 2 ^ (w - 1)
-end_of_bits false w = 2 ^ w
-
-abbrev pub end_of_kind : IntKind → ℕ
-end_of_kind k = end_of_bits (is_signed k) (width k)
-
 -- two numbers that differ by a multiple of 2^w
 abbrev pub Congruent : ℕ → ℤ → ℤ → Type 0
 Congruent w x y = (m : ℤ) × (x ≡ y +ℤ m *ℤ pos (2 ^ w))

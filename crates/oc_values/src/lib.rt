@@ -8,5 +8,5 @@
 pub mod integers;
 pub mod lists;
 
-pub use integers::{BinaryOp, IntKind, ZeroDivisor, add, convert, subtract, wrap};
+pub use integers::{BinaryOp, IntKind, ZeroDivisor, add, convert, public_op, subtract, wrap};
 pub use lists::{Boxed, Items, Name, NoMemory};

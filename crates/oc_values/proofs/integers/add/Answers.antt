@@ -1,14 +1,10 @@
-use Rattle.std.proofs.Common.{◌∙◌, SFits, rules}
+use Rattle.std.proofs.Common.{rules, ◌∙◌, SFits}
 use Rattle.std.specs.Int.{w128}
 use Rattle.std.proofs.lemmas.Int.{to_z-of_z}
-use Rattle.oc_values.proofs.Ranges.{sum_so}
+use Rattle.oc_values.proofs.Operations.{wrap-wrapping_add}
 use Rattle.oc_values.proofs.integers.add.Goals as goal
 
 pub returns : goal.returns
 returns c =
-    let left = c.ranges.left in
-    let right = c.ranges.right in
-    let last : SFits w128 c.wrap.result = search rules in
-    let x = simp to_z-of_z at c.wrap-low.ensures.congruent in
-    let y = simp to_z-of_z at c.wrap-more.ensures.congruent in
-    to_z-of_z w128 c.wrap.result last ∙ sum_so _ _ _ _ _ _ x c.wrap-low.ensures.of_kind y c.wrap-more.ensures.of_kind c.wrap.ensures.value
+    let fits : SFits w128 c.wrap.result = search rules in
+    rw (to_z-of_z w128 c.wrap.result fits, c.wrap.ensures.value, wrap-wrapping_add c.args.kind c.args.left c.args.right c.ranges.left c.ranges.right)

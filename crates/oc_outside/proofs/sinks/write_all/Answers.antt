@@ -1,0 +1,17 @@
+use Rattle.std.proofs.Common.{◌∙◌, ap, take, arith, length-drop}
+use Rattle.std.proofs.lemmas.List.{take_rest}
+use Rattle.oc_outside.specs.Told.{appended}
+use Rattle.oc_outside.proofs.Lists.{appended-next}
+use Rattle.oc_outside.proofs.sinks.write_all.Goals as goal
+
+pub loop-at-preserved : goal.loop-at-preserved
+loop-at-preserved g c =
+    let within = rw (take_rest, length-drop) at c.in-Took.ensures.within in
+    let took = rw take_rest at c.in-Took.ensures.took in
+    let told = g.S.Sink.written c.args.sink.now in
+    record {
+      within = omega (arith, within);
+      never_falls = omega (arith, c.in-Took.ensures.never_falls);
+      written =
+          took ∙ ap (appended (take c.in-Took.n _)) c.loop-at.invariant.written ∙ appended-next c.args.bytes.now c.loop-at.at c.in-Took.n told;
+    }

@@ -1,0 +1,25 @@
+-- What is said of a dialer's answers.
+use Rattle.std.specs.Prelude.{⊤}
+use Rattle.oc_outside.specs.declared.dialers.DialAnswer.{DialAnswer}
+use Rattle.oc_outside.specs.declared.dialers.DialAnswer.TheVariants.{Line, Failed, NoMemory}
+
+-- a fact of the line, where one is handed out
+abbrev pub IfLine : {L : Type 0} → DialAnswer L → (L → Type 0) → Type 0
+IfLine (Line line) fact = fact line
+IfLine Failed fact = ⊤
+IfLine NoMemory fact = ⊤
+
+abbrev pub OnDialFailed : {L : Type 0} → DialAnswer L → Type 0 → Type 0
+OnDialFailed (Line line) fact = ⊤
+OnDialFailed Failed fact = fact
+OnDialFailed NoMemory fact = ⊤
+
+abbrev pub OnDialNoMemory : {L : Type 0} → DialAnswer L → Type 0 → Type 0
+OnDialNoMemory (Line line) fact = ⊤
+OnDialNoMemory Failed fact = ⊤
+OnDialNoMemory NoMemory fact = fact
+
+abbrev pub UnlessDialNoMemory : {L : Type 0} → DialAnswer L → Type 0 → Type 0
+UnlessDialNoMemory (Line line) fact = fact
+UnlessDialNoMemory Failed fact = fact
+UnlessDialNoMemory NoMemory fact = ⊤

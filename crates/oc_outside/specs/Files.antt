@@ -1,0 +1,6 @@
+-- Files in memory: the bytes under each name.
+use Rattle.std.specs.Prelude.{ℕ, List, Option, String}
+use Rattle.std.specs.BTreeMap.{BTreeMap, get_by_text}
+
+abbrev pub held : {Y : Type 0} → BTreeMap (String Y) (List ℕ) → List ℕ → Option (List ℕ)
+held files name = get_by_text files name

@@ -1,0 +1,10 @@
+pub mod Counts
+pub mod Told
+pub mod Vaults
+pub mod Sinks
+pub mod Links
+pub mod Dialers
+pub mod Files
+pub mod Sinking
+pub mod Keeping
+pub mod Lines

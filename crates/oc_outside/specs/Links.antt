@@ -1,0 +1,25 @@
+-- What is said of the answers of a link's receiving half.
+use Rattle.std.specs.Prelude.{ℕ, ⊤}
+use Rattle.oc_outside.specs.declared.links.RecvAnswer.{RecvAnswer}
+use Rattle.oc_outside.specs.declared.links.RecvAnswer.TheVariants.{Got, Ended, Failed}
+
+-- a fact of the number of bytes received, where some were received
+abbrev pub IfGot : RecvAnswer → (ℕ → Type 0) → Type 0
+IfGot (Got n) fact = fact n
+IfGot Ended fact = ⊤
+IfGot Failed fact = ⊤
+
+abbrev pub OnEnded : RecvAnswer → Type 0 → Type 0
+OnEnded (Got n) fact = ⊤
+OnEnded Ended fact = fact
+OnEnded Failed fact = ⊤
+
+abbrev pub OnRecvFailed : RecvAnswer → Type 0 → Type 0
+OnRecvFailed (Got n) fact = ⊤
+OnRecvFailed Ended fact = ⊤
+OnRecvFailed Failed fact = fact
+
+abbrev pub UnlessGot : RecvAnswer → Type 0 → Type 0
+UnlessGot (Got n) fact = ⊤
+UnlessGot Ended fact = fact
+UnlessGot Failed fact = fact

@@ -1,0 +1,37 @@
+-- What is said of the answers of a sink, and of the end of a whole write.
+use Rattle.std.specs.Prelude.{ℕ, ⊤}
+use Rattle.oc_outside.specs.declared.sinks.PutAnswer.{PutAnswer}
+use Rattle.oc_outside.specs.declared.sinks.PutAnswer.TheVariants.{Took, Failed as NotTaken, NoMemory as PutNoMemory}
+use Rattle.oc_outside.specs.declared.sinks.PutEnd.{PutEnd}
+use Rattle.oc_outside.specs.declared.sinks.PutEnd.TheVariants.{Done, Failed as NotDone, NoMemory as EndNoMemory}
+
+-- a fact of the number of bytes taken, where some were taken
+abbrev pub IfTook : PutAnswer → (ℕ → Type 0) → Type 0
+IfTook (Took n) fact = fact n
+IfTook NotTaken fact = ⊤
+IfTook PutNoMemory fact = ⊤
+
+abbrev pub OnPutFailed : PutAnswer → Type 0 → Type 0
+OnPutFailed (Took n) fact = ⊤
+OnPutFailed NotTaken fact = fact
+OnPutFailed PutNoMemory fact = ⊤
+
+abbrev pub UnlessTook : PutAnswer → Type 0 → Type 0
+UnlessTook (Took n) fact = ⊤
+UnlessTook NotTaken fact = fact
+UnlessTook PutNoMemory fact = fact
+
+abbrev pub OnDone : PutEnd → Type 0 → Type 0
+OnDone Done fact = fact
+OnDone NotDone fact = ⊤
+OnDone EndNoMemory fact = ⊤
+
+abbrev pub OnEndFailed : PutEnd → Type 0 → Type 0
+OnEndFailed Done fact = ⊤
+OnEndFailed NotDone fact = fact
+OnEndFailed EndNoMemory fact = ⊤
+
+abbrev pub UnlessDone : PutEnd → Type 0 → Type 0
+UnlessDone Done fact = ⊤
+UnlessDone NotDone fact = fact
+UnlessDone EndNoMemory fact = fact
