@@ -2,7 +2,7 @@
 use Rattle.std.proofs.Common.{◌≡◌, refl, ℕ, ◌+◌, pos, negsuc, List, [], ◌∷◌, Option, Some, None, true, false}
 use Rattle.std.specs.Prelude.{codes}
 use Rattle.std.specs.Fmt.{digits}
-use Rattle.oc_values.specs.declared.integers.IntKind.TheVariants.{I32}
+use Rattle.oc_values.specs.declared.integers.IntKind.TheVariants.{I32, I64}
 use Rattle.oc_values.specs.declared.integers.BinaryOp.TheVariants.{Add}
 use Rattle.oc_tree.specs.declared.spot.Spot.{Spot}
 use Rattle.oc_tree.specs.declared.types.CType.{CType, Int, Pointer', Nothing, more_of-CType, end_of-CType}
@@ -34,7 +34,7 @@ abbrev word : ℕ → Row_of-TExpr 1
 word k = more_of-TExpr (p k) public (Number (pos 0)) end_of-TExpr
 
 abbrev feeding : ℕ → ℕ → TExpr
-feeding k party = record { spot = p k; ty = hidden; node = Builtin' (Feed I32 party) (tt ∷ []) (more_of-TExpr (p (k + 1)) public (Builtin' Private (tt ∷ []) (word (k + 2))) end_of-TExpr) }
+feeding k party = record { spot = p k; ty = hidden; node = Builtin' (Feed I32 party) (tt ∷ []) (more_of-TExpr (p (k + 1)) (Int I64 false) (Builtin' Private (tt ∷ []) (word (k + 2))) end_of-TExpr) }
 
 abbrev reading : ℕ → ℕ → Row_of-TExpr 1
 reading k n = more_of-TExpr (p k) hidden (Read' (p k) hidden (Slot n)) end_of-TExpr

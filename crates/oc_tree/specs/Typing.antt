@@ -76,7 +76,7 @@ abbrev mutual
 
   -- the argument of a feed: the private word of a public index
   pub fed : {m : _} → List SlotType → Row_of-TExpr m → Bool
-  fed ss (more_of-TExpr q u (Builtin' Private _ es) end_of-TExpr) = indexed ss es
+  fed ss (more_of-TExpr q (Int I64 false) (Builtin' Private _ es) end_of-TExpr) = indexed ss es
   fed ss _ = false
 
   pub indexed : {m : _} → List SlotType → Row_of-TExpr m → Bool

@@ -21,7 +21,9 @@ pub mod typed;
 pub mod types;
 
 pub use memory::{Address, Block, Cell, CellValue, Leaf};
-pub use oc_values::{BinaryOp, Boxed, IntKind, Items, Name, NoMemory, ZeroDivisor, convert, public_op, wrap};
+pub use oc_values::{
+    BinaryOp, Boxed, IntKind, Items, Name, NoMemory, ZeroDivisor, convert, public_op, wrap,
+};
 pub use outcome::{Outcome, TrapKind};
 pub use program::Typed;
 pub use row::Row;
