@@ -1,0 +1,35 @@
+-- What the files of a command hold, as far as a vault tells it, and what that means for the command.
+use Rattle.std.specs.Prelude.{ℕ, ◌≡◌, ℤ, List, Option, Some, None, IfSome, ◌⊎◌}
+use Rattle.oc_outside.specs.Counts.{Rose}
+use Rattle.oc_tree.specs.declared.program.Typed.{Typed}
+use Rattle.first_form.specs.First.{First}
+use Rattle.oblivc_main.specs.Inputs.{IsInput}
+
+-- what a vault tells of each name: None where nothing is told, Some None where the name holds nothing
+abbrev pub Told : Type 0
+Told = List ℕ → Option (Option (List ℕ))
+
+-- the name holds these bytes, where it is told
+abbrev pub Holds : Told → List ℕ → List ℕ → Type 0
+Holds told name bytes = IfSome (told name) (λ held. held ≡ Some bytes)
+
+abbrev pub IsAbsent : Told → List ℕ → Type 0
+IsAbsent told name = IfSome (told name) (λ held. held ≡ None)
+
+-- the source is of the first form, with this tree, or it has no tree
+abbrev pub Accepts : Told → List ℕ → Typed → Type 0
+Accepts told file t = (source : List ℕ) × Holds told file source × First source t
+
+abbrev pub Refuses : Told → List ℕ → Type 0
+Refuses told file = (source : List ℕ) × Holds told file source × ((t : Typed) → First source t → ⊥)
+
+-- the input file has the form of one word, or it hasn't
+abbrev pub HasWord : Told → List ℕ → ℤ → Type 0
+HasWord told name word = (bytes : List ℕ) × Holds told name bytes × IsInput bytes word
+
+abbrev pub HasNoWord : Told → List ℕ → Type 0
+HasNoWord told name = (bytes : List ℕ) × Holds told name bytes × ((word : ℤ) → IsInput bytes word → ⊥)
+
+-- a name can't be read: it is absent, or the faults rose and it is the name that failed last
+abbrev pub Unreadable : Told → ℕ → ℕ → Option (List ℕ) → List ℕ → Type 0
+Unreadable told before after failed name = IsAbsent told name ⊎ (Rose before after × IfSome failed (λ last. last ≡ name))

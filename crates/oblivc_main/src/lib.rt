@@ -1,0 +1,6 @@
+//! The top call: all that the program does.
+#![tactic(auto)]
+
+pub mod inputs;
+pub mod stop;
+pub mod words;
