@@ -2,6 +2,8 @@
 use Rattle.std.specs.Prelude.{ℕ, ◌≡◌, ◌≤◌, ℤ, List, [], ◌∷◌, length, take, Option, Result, Ok, Err, ◌⊎◌}
 use Rattle.oc_outside.specs.Counts.{Rose}
 use Rattle.oc_outside.specs.Told.{appended}
+use Rattle.oc_outside.specs.Sinks.{OnDone, OnEndFailed, UnlessDone}
+use Rattle.oc_outside.specs.declared.sinks.PutEnd.{PutEnd}
 use Rattle.oc_tree.specs.declared.run.ShownItem.{ShownItem}
 use Rattle.oc_tree.specs.declared.run.ClearSetup.{ClearSetup}
 use Rattle.oc_tree.specs.declared.outcome.Outcome.TheVariants.{Done}
@@ -78,3 +80,26 @@ Ends c (Err (Unread which)) = ReadsUpTo c which × Unreadable c.told c.faults_be
 Ends c (Err (WrongInput which)) = ReadsUpTo c which × IsWrong c which × PrintsNothing c
 Ends c (Err Output) = Rose c.out_faults_before c.out_faults_after × PrintsFront c
 Ends c (Err NoMemory) = PrintsNothing c ⊎ PrintsFront c
+
+-- what reading the source answers
+abbrev pub ReadSource : Told → ℕ → ℕ → Option (List ℕ) → List ℕ → Result Typed Stop → Type 0
+ReadSource told before after failed file (Ok t) = Accepts told file t
+ReadSource told before after failed file (Err Refused) = Refuses told file
+ReadSource told before after failed file (Err (Unread Source)) = Unreadable told before after failed file
+ReadSource told before after failed file (Err NoMemory) = Unit {0}
+ReadSource told before after failed file (Err _) = ⊥
+
+-- what reading an input file answers
+abbrev pub ReadWord : Told → ℕ → ℕ → Option (List ℕ) → List ℕ → Which → Result ℤ Stop → Type 0
+ReadWord told before after failed name which (Ok word) = HasWord told name word
+ReadWord told before after failed name which (Err (Unread other)) = (other ≡ which) × Unreadable told before after failed name
+ReadWord told before after failed name which (Err (WrongInput other)) = (other ≡ which) × HasNoWord told name
+ReadWord told before after failed name which (Err NoMemory) = Unit {0}
+ReadWord told before after failed name which (Err _) = ⊥
+
+-- these bytes were printed, or a front of them where the sink refused; the faults never fell
+pub record Printed (bytes : List ℕ) (r : PutEnd) (faults_before faults_after : ℕ) (before after : Option (List ℕ)) : Type 0 where
+  pub never_falls : faults_before ≤ faults_after
+  pub done : OnDone r (after ≡ appended bytes before)
+  pub failed : OnEndFailed r (Rose faults_before faults_after)
+  pub refused : UnlessDone r ((n : ℕ) × (n ≤ length bytes) × (after ≡ appended (take n bytes) before))

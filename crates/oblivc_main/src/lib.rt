@@ -2,5 +2,6 @@
 #![tactic(auto)]
 
 pub mod inputs;
+pub mod reading;
 pub mod stop;
 pub mod words;

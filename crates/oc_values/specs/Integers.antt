@@ -43,9 +43,13 @@ abbrev pub value_of_bits : Bool → ℕ → ℕ → ℤ
 value_of_bits true w n = signed_value w n
 value_of_bits false w n = pos n
 
+-- the value of w bits, with a sign or without, that differs from z by a multiple of 2^w
+abbrev pub wrap_bits : Bool → ℕ → ℤ → ℤ
+wrap_bits signed w z = value_of_bits signed w (residue w z)
+
 -- the value of the kind that differs from z by a multiple of 2^width
 abbrev pub wrap : IntKind → ℤ → ℤ
-wrap k z = value_of_bits (is_signed k) (width k) (residue (width k) z)
+wrap k z = wrap_bits (is_signed k) (width k) z
 
 -- from 0 to 2^w - 1, or from -2^(w-1) to 2^(w-1) - 1 with a sign
 abbrev pub is_in_bits : Bool → ℕ → ℤ → Bool
@@ -101,27 +105,35 @@ abbrev pub shift_amount : ℕ → ℤ → ℕ
 shift_amount w (pos n) = n % w
 shift_amount w (negsuc n) = w - 1 - n % w
 
-abbrev pub on_bits : IntKind → (ℕ → ℕ → ℕ) → ℤ → ℤ → ℤ
-on_bits k f x y = value_of_bits (is_signed k) (width k) (f (residue (width k) x) (residue (width k) y))
+-- f of the numbers without a sign, as a value of w bits
+abbrev pub combine_bits : Bool → ℕ → (ℕ → ℕ → ℕ) → ℤ → ℤ → ℤ
+combine_bits signed w f x y = value_of_bits signed w (f (residue w x) (residue w y))
 
--- an operation on values of a kind, with the answers of hidden divisions by 0; a comparison gives 1 or 0
+abbrev pub on_bits : IntKind → (ℕ → ℕ → ℕ) → ℤ → ℤ → ℤ
+on_bits k f x y = combine_bits (is_signed k) (width k) f x y
+
+-- an operation on values of w bits, with a sign or without, and with the answers of hidden divisions by 0; a comparison gives 1 or 0
+abbrev pub operate_bits : BinaryOp → Bool → ℕ → ℤ → ℤ → ℤ
+operate_bits Add signed w x y = wrap_bits signed w (x +ℤ y)
+operate_bits Sub signed w x y = wrap_bits signed w (x -ℤ y)
+operate_bits Mul signed w x y = wrap_bits signed w (x *ℤ y)
+operate_bits Div signed w x y = wrap_bits signed w (quotient signed x y)
+operate_bits Rem signed w x y = wrap_bits signed w (remainder x y)
+operate_bits Shl signed w x y = wrap_bits signed w (x *ℤ pos (2 ^ shift_amount w y))
+operate_bits Shr signed w x y = wrap_bits signed w (int_div_euclid x (pos (2 ^ shift_amount w y)))
+operate_bits And signed w x y = combine_bits signed w bit_and x y
+operate_bits Or signed w x y = combine_bits signed w bit_or x y
+operate_bits Xor signed w x y = combine_bits signed w bit_xor x y
+operate_bits Less signed w x y = number_of (int_lt x y)
+operate_bits LessEq signed w x y = number_of (not (int_lt y x))
+operate_bits Greater signed w x y = number_of (int_lt y x)
+operate_bits GreaterEq signed w x y = number_of (not (int_lt x y))
+operate_bits Equal signed w x y = number_of (is_zero (x -ℤ y))
+operate_bits NotEqual signed w x y = number_of (not (is_zero (x -ℤ y)))
+
+-- an operation on values of a kind
 abbrev pub operate : BinaryOp → IntKind → ℤ → ℤ → ℤ
-operate Add k x y = wrap k (x +ℤ y)
-operate Sub k x y = wrap k (x -ℤ y)
-operate Mul k x y = wrap k (x *ℤ y)
-operate Div k x y = wrap k (quotient (is_signed k) x y)
-operate Rem k x y = wrap k (remainder x y)
-operate Shl k x y = wrap k (x *ℤ pos (2 ^ shift_amount (width k) y))
-operate Shr k x y = wrap k (int_div_euclid x (pos (2 ^ shift_amount (width k) y)))
-operate And k x y = on_bits k bit_and x y
-operate Or k x y = on_bits k bit_or x y
-operate Xor k x y = on_bits k bit_xor x y
-operate Less k x y = number_of (int_lt x y)
-operate LessEq k x y = number_of (not (int_lt y x))
-operate Greater k x y = number_of (int_lt y x)
-operate GreaterEq k x y = number_of (not (int_lt x y))
-operate Equal k x y = number_of (is_zero (x -ℤ y))
-operate NotEqual k x y = number_of (not (is_zero (x -ℤ y)))
+operate op k x y = operate_bits op (is_signed k) (width k) x y
 
 abbrev pub divides : BinaryOp → Bool
 divides Div = true
@@ -133,11 +145,17 @@ abbrev pub operate_public : BinaryOp → IntKind → ℤ → ℤ → Result ℤ 
 operate_public op k x y = if divides op && is_zero y then Err record {} else Ok (operate op k x y)
 
 -- the operators with one operand: minus, and every bit turned
+abbrev pub negate_bits : Bool → ℕ → ℤ → ℤ
+negate_bits signed w x = wrap_bits signed w (neg_ℤ x)
+
+abbrev pub flip_bits : Bool → ℕ → ℤ → ℤ
+flip_bits signed w x = wrap_bits signed w (negsuc 0 -ℤ x)
+
 abbrev pub negate : IntKind → ℤ → ℤ
-negate k x = wrap k (neg_ℤ x)
+negate k x = negate_bits (is_signed k) (width k) x
 
 abbrev pub flip : IntKind → ℤ → ℤ
-flip k x = wrap k (negsuc 0 -ℤ x)
+flip k x = flip_bits (is_signed k) (width k) x
 
 -- the kind of an operation's result: of a comparison I32, else that of its operands
 abbrev pub kind_of_result : BinaryOp → IntKind → IntKind
