@@ -1,1 +1,5 @@
 pub mod Sample
+pub mod EndingState
+pub mod EndingNames
+pub mod EndingViews
+pub mod EndingParts
