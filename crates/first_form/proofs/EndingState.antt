@@ -49,12 +49,11 @@ abbrev pub entered : ℕ → List Entered
 entered zero = []
 entered (suc n) = record { slot = n; block = n } ∷ entered n
 
+abbrev pub placed : List Variable → ℕ → ℕ → ℕ → List ShownItem → State ℤ (List ShownItem)
+placed vs n dealt steps shown = record { mem = record { blocks = blocks vs; dealt = dealt; answers = []; taken = 0; own = shown }; entered = entered n; steps = steps }
+
 abbrev pub at : List Variable → ℕ → ℕ → List ShownItem → State ℤ (List ShownItem)
-at vs dealt steps shown = record {
-  mem = record { blocks = blocks vs; dealt = dealt; answers = []; taken = 0; own = shown };
-  entered = entered (length vs);
-  steps = steps;
-}
+at vs dealt steps shown = placed vs (length vs) dealt steps shown
 
 -- the integer of the first variable of a name
 abbrev pub held : List ℕ → List Variable → ℤ
@@ -203,7 +202,7 @@ put_last : (vs : List Variable) (name : List ℕ) (hidden : Bool) (m n : ℤ) �
 put_last [] name hidden m n = ap (λ b. b ∷ []) (put_same hidden hidden name m n refl)
 put_last (v ∷ vs) name hidden m n = ap (λ bs. block v ∷ bs) (put_last vs name hidden m n)
 
-length_extended : (vs : List Variable) (v : Variable) → length (vs ++ v ∷ []) ≡ suc (length vs)
+pub length_extended : (vs : List Variable) (v : Variable) → length (vs ++ v ∷ []) ≡ suc (length vs)
 length_extended vs v = length_push vs v ∙ add-one (length vs)
 
 -- a write to the newest variable
@@ -211,9 +210,6 @@ pub stored_last : (vs : List Variable) (name : List ℕ) (hidden : Bool) (m n : 
 stored_last vs name hidden m n =
     stored_at hidden (length vs) (blocks (extended vs name hidden m)) m n (record { below = rw (length-map (extended vs name hidden m) block, length_extended vs (record { name = name; hidden = hidden; value = m })) (omega arith); there = last_there vs (record { name = name; hidden = hidden; value = m }) })
     ∙ ap Ok (put_last vs name hidden m n)
-
-pub entered_extended : (vs : List Variable) (v : Variable) → entered (length (vs ++ v ∷ [])) ≡ record { slot = length vs; block = length vs } ∷ entered (length vs)
-entered_extended vs v = ap entered (length_extended vs v)
 
 keeps_length : (b : Bool) (v : Variable) (n : ℤ) (vs ws : List Variable) → length ws ≡ length vs → length (if b then with_value n v ∷ vs else v ∷ ws) ≡ suc (length vs)
 keeps_length true v n vs ws e = refl

@@ -3,3 +3,4 @@ pub mod EndingState
 pub mod EndingNames
 pub mod EndingViews
 pub mod EndingParts
+pub mod EndingSteps
