@@ -64,7 +64,7 @@ module _ (x y : ℤ) where
       ap (λ r. typed_slot (D x y) p r (λ t. bind (opens (D x y) p t.ty (length (marks vs))) (λ b. started (D x y) (around x y public slots room) t.ty b init)) (at vs dealt steps o)) s
       ∙ then_go (λ b. started (D x y) (around x y public slots room) (int_type hidden) b init) (opened p name hidden vs dealt steps o h) g
 
-  declares_done : (public : List ℤ) (slots : List SlotType) (room : ℕ) (spots : List Spot) (name : List ℕ) (vs : List Variable) (dealt steps : ℕ) (o : List ShownItem) → length vs < 65536 → slice_get slots (length (marks vs)) ≡ Some (record { ty = int_type false; frozen = false }) → stepped (D x y) (around x y public slots room) (statement (marks vs) spots (Declares name)) (at vs dealt (suc steps) o) ≡ Go Next (at (extended vs name false (pos 0)) dealt steps o)
+  pub declares_done : (public : List ℤ) (slots : List SlotType) (room : ℕ) (spots : List Spot) (name : List ℕ) (vs : List Variable) (dealt steps : ℕ) (o : List ShownItem) → length vs < 65536 → slice_get slots (length (marks vs)) ≡ Some (record { ty = int_type false; frozen = false }) → stepped (D x y) (around x y public slots room) (statement (marks vs) spots (Declares name)) (at vs dealt (suc steps) o) ≡ Go Next (at (extended vs name false (pos 0)) dealt steps o)
   declares_done public slots room spots name vs dealt steps o h s =
       then_go (λ _. pure Next) (declared public slots (room - 1) (word_spot spots 1) name false None vs dealt steps o (at (extended vs name false (pos 0)) dealt steps o) h s refl) refl
 
@@ -74,7 +74,7 @@ module _ (x y : ℤ) where
       ∙ ap (λ k. Go tt (placed (extended vs name true n) k dealt steps o)) (length_extended vs (record { name = name; hidden = true; value = pos 0 }) ∙ sym (length_extended vs (record { name = name; hidden = true; value = n })))
 
   -- a hidden name that is fed
-  feeds_done : (public : List ℤ) (slots : List SlotType) (room : ℕ) (spots : List Spot) (name : List ℕ) (party : ℕ) (vs : List Variable) (dealt steps : ℕ) (o : List ShownItem) → length vs < 65536 → cost party I32 ≤ dealt → slice_get slots (length (marks vs)) ≡ Some (record { ty = int_type true; frozen = false }) → stepped (D x y) (around x y public slots room) (statement (marks vs) spots (Feeds name party)) (at vs dealt (suc steps) o) ≡ Go Next (at (extended vs name true (convert (word_of x y party) I32)) (dealt - cost party I32) steps o)
+  pub feeds_done : (public : List ℤ) (slots : List SlotType) (room : ℕ) (spots : List Spot) (name : List ℕ) (party : ℕ) (vs : List Variable) (dealt steps : ℕ) (o : List ShownItem) → length vs < 65536 → cost party I32 ≤ dealt → slice_get slots (length (marks vs)) ≡ Some (record { ty = int_type true; frozen = false }) → stepped (D x y) (around x y public slots room) (statement (marks vs) spots (Feeds name party)) (at vs dealt (suc steps) o) ≡ Go Next (at (extended vs name true (convert (word_of x y party) I32)) (dealt - cost party I32) steps o)
   feeds_done public slots room spots name party vs dealt steps o h c s =
       then_go (λ _. pure Next)
       (declared public slots (room - 1) (word_spot spots 2) name true (Some (fed spots party)) vs dealt steps o (at (extended vs name true (convert (word_of x y party) I32)) (dealt - cost party I32) steps o) h s
@@ -82,7 +82,7 @@ module _ (x y : ℤ) where
       (feed_written (word_spot spots 4) name (convert (word_of x y party) I32) vs (dealt - cost party I32) steps o)))
       refl
 
-  prints_done : (public : List ℤ) (slots : List SlotType) (room : ℕ) (spots : List Spot) (name : List ℕ) (vs : List Variable) (bs : List Bound) (dealt steps : ℕ) (o : List ShownItem) → Agrees vs bs → IsTrue (is_known (marks vs) false name) → stepped (D x y) (around x y public slots room) (statement (marks vs) spots (Prints name)) (at vs dealt (suc steps) o) ≡ Go Next (at vs dealt steps (o ++ Printed (signed_decimal (value_of name bs) ++ 10 ∷ []) ∷ []))
+  pub prints_done : (public : List ℤ) (slots : List SlotType) (room : ℕ) (spots : List Spot) (name : List ℕ) (vs : List Variable) (bs : List Bound) (dealt steps : ℕ) (o : List ShownItem) → Agrees vs bs → IsTrue (is_known (marks vs) false name) → stepped (D x y) (around x y public slots room) (statement (marks vs) spots (Prints name)) (at vs dealt (suc steps) o) ≡ Go Next (at vs dealt steps (o ++ Printed (signed_decimal (value_of name bs) ++ 10 ∷ []) ∷ []))
   prints_done public slots room spots name vs bs dealt steps o a h =
       let p = word_spot spots 0 in
       let e = reading (word_spot spots 4) false (slot_of name (marks vs)) in
@@ -107,7 +107,7 @@ module _ (x y : ℤ) where
       (then_go (λ _. pure VNothing) (stores_when p ((at vs dealt steps (o ++ Revealed I32 n ∷ [])).mem) (blocks (assigned target n vs)) (store (blocks vs) (At (slot_of target (marks vs)) 0) (Int I32 false) (CellInt n)) (stored target n vs h)) refl)
       ∙ ap (λ k. Go VNothing (placed (assigned target n vs) k dealt steps (o ++ Revealed I32 n ∷ []))) (sym (length_assigned target n vs))
 
-  reveals_done : (public : List ℤ) (slots : List SlotType) (room : ℕ) (spots : List Spot) (target name : List ℕ) (more : List Summand) (vs : List Variable) (bs : List Bound) (dealt steps : ℕ) (o : List ShownItem) → Agrees vs bs → IsTrue (is_known (marks vs) false target) → IsTrue (is_known (marks vs) true name) → IsTrue (list_all (is_summand (marks vs)) more) → stepped (D x y) (around x y public slots room) (statement (marks vs) spots (Reveals target name more)) (at vs dealt (suc steps) o) ≡ Go Next (at (assigned target (total bs (value_of name bs) more) vs) dealt steps (o ++ Revealed I32 (total bs (value_of name bs) more) ∷ []))
+  pub reveals_done : (public : List ℤ) (slots : List SlotType) (room : ℕ) (spots : List Spot) (target name : List ℕ) (more : List Summand) (vs : List Variable) (bs : List Bound) (dealt steps : ℕ) (o : List ShownItem) → Agrees vs bs → IsTrue (is_known (marks vs) false target) → IsTrue (is_known (marks vs) true name) → IsTrue (list_all (is_summand (marks vs)) more) → stepped (D x y) (around x y public slots room) (statement (marks vs) spots (Reveals target name more)) (at vs dealt (suc steps) o) ≡ Go Next (at (assigned target (total bs (value_of name bs) more) vs) dealt steps (o ++ Revealed I32 (total bs (value_of name bs) more) ∷ []))
   reveals_done public slots room spots target name more vs bs dealt steps o a h g f =
       let p = word_spot spots 0 in
       let w = around x y public slots (room - 1 - 1) in

@@ -4,3 +4,4 @@ pub mod EndingNames
 pub mod EndingViews
 pub mod EndingParts
 pub mod EndingSteps
+pub mod EndingItems
