@@ -1,8 +1,7 @@
 -- What the parts of the first form's statements do at a state.
-use Rattle.std.proofs.Common.{ℕ, zero, suc, ◌+◌, ◌-◌, ◌*◌, ◌≡◌, ◌<◌, ◌≤◌, ℤ, pos, List, [], ◌∷◌, ◌++◌, length, map, Bool, true, false, Option, Some, None, Result, Ok, Err, refl, sym, ap, ◌∙◌, subst, nat_le, nat_eq, arith, slice_get, drop, if◌then◌else◌}
+use Rattle.std.proofs.Common.{ℕ, zero, suc, ◌-◌, ◌≡◌, ◌<◌, ◌≤◌, ℤ, pos, List, [], ◌∷◌, length, Bool, true, false, Some, refl, ap, ◌∙◌, nat_le, nat_eq, arith, slice_get, drop}
 use Rattle.std.specs.Prelude.{IsTrue}
 use Rattle.std.specs.List.{list_all}
-use Rattle.std.specs.Fmt.{signed_decimal}
 use Rattle.std.proofs.lemmas.Bool.Decides.{nat_tests}
 use Rattle.std.proofs.lemmas.List.{length-map}
 use Rattle.oc_values.specs.declared.integers.IntKind.TheVariants.{I32, I64}
@@ -17,22 +16,20 @@ use Rattle.oc_tree.specs.declared.types.SlotType.{SlotType}
 use Rattle.oc_tree.specs.declared.run.Source.{Source}
 use Rattle.oc_tree.specs.declared.run.Source.TheVariants.{Word}
 use Rattle.oc_tree.specs.declared.memory.Block.{Block}
-use Rattle.oc_tree.specs.declared.memory.Address.TheVariants.{At}
-use Rattle.oc_tree.specs.declared.memory.CellValue.TheVariants.{Int as CellInt}
 use Rattle.oc_tree.specs.declared.run.ShownItem.{ShownItem}
-use Rattle.oc_tree.specs.declared.run.ShownItem.TheVariants.{Print as Printed, Reveal as Revealed}
 use Rattle.oc_tree.specs.declared.run.Value.{Value}
-use Rattle.oc_tree.specs.declared.run.Value.TheVariants.{Int as VInt, Hidden as VHidden, Pointer as VPointer, Nothing as VNothing}
+use Rattle.oc_tree.specs.declared.run.Value.TheVariants.{Int as VInt, Hidden as VHidden}
 use Rattle.oc_tree.specs.declared.run.Named.{Named as Entered}
 use Rattle.oc_tree.specs.Typing.{is_sum}
 use Rattle.oc_tree.specs.Domain.{Domain}
 use Rattle.oc_tree.specs.Walking.{Mem, State, Res, Go, Act, bind, after, pure, still, stilled, block_of, pays, own}
 use Rattle.oc_tree.specs.Walk.{Around, deeper, whole, operates, sums, Known, word, cost, performs, source_at}
 use Rattle.oc_tree.specs.Clear.{clear}
-use Rattle.first_form.specs.Items.{Summand, Named, is_known, is_summand, is_plus_or_minus}
+use Rattle.first_form.specs.Items.{Summand, is_known, is_summand, is_plus_or_minus}
 use Rattle.first_form.specs.Trees.{slot_of, reading, summed, int_type, word_spot, fed}
-use Rattle.first_form.specs.Ending.{Bound, value_of, total, word_of}
-use Rattle.first_form.proofs.EndingState.{Variable, marks, held, block, blocks, cell_block, both, entered, at, stands, Stands, entered_at}
+use Rattle.first_form.specs.Ending.{Bound, value_of, word_of}
+use Rattle.first_form.proofs.EndingWrap.{total}
+use Rattle.first_form.proofs.EndingState.{Variable, marks, held, block, blocks, cell_block, both, entered, at, stands, entered_at}
 use Rattle.first_form.proofs.EndingNames.{Agrees}
 use Rattle.first_form.proofs.EndingViews.{binary_at, one_at, private_at}
 
@@ -82,8 +79,8 @@ module _ (x y : ℤ) where
       let names = both (is_plus_or_minus s.op) (is_known (marks vs) true s.name) parts.0 in
       summed_to vs bs dealt steps o first (drop 2 spots) (record { spot = first; ty = int_type true; node = Binary s.op left (reading (word_spot spots 1) true (slot_of s.name (marks vs))) }) (operate s.op I32 m (value_of s.name bs)) ss a parts.1
       (λ w. ap (λ f. f (at vs dealt steps o)) (binary_at D w first (int_type true) s.op left (reading (word_spot spots 1) true (slot_of s.name (marks vs))))
-          ∙ add_next w first (int_type true) s.op left (reading (word_spot spots 1) true (slot_of s.name (marks vs))) m (value_of s.name bs) (at vs dealt steps o) names.0 f
-          (λ w. read_known true w (word_spot spots 1) s.name vs dealt steps o names.1 ∙ ap (λ n. Go (VHidden I32 n) (at vs dealt steps o)) (a.at s.name)))
+      ∙ add_next w first (int_type true) s.op left (reading (word_spot spots 1) true (slot_of s.name (marks vs))) m (value_of s.name bs) (at vs dealt steps o) names.0 f
+      (λ w. read_known true w (word_spot spots 1) s.name vs dealt steps o names.1 ∙ ap (λ n. Go (VHidden I32 n) (at vs dealt steps o)) (a.at s.name)))
       w
 
   paid : (cost dealt : ℕ) → cost ≤ dealt → nat_le cost dealt ≡ true
@@ -125,5 +122,5 @@ module _ (x y : ℤ) where
   fed_to public slots room spots party s h =
       ap (λ f. f s) (one_at D (around public slots room) (word_spot spots 4) (int_type true) (Feed I32 party) (private_zero spots))
       ∙ then_go (λ vs. still (performs D (known public) (word_spot spots 4) (source_at (word_spot spots 6) ((private_zero spots).node)) (Feed I32 party) vs))
-        (then_go (λ v. pure (v ∷ [])) (zero_read (around public slots (room - 1)) spots s) refl)
-        (feed_of public (word_spot spots 4) (word_spot spots 6) party (source_at (word_spot spots 6) ((private_zero spots).node)) s (private_at (word_spot spots 6) (record { spot = word_spot spots 8; ty = int_type false; node = Number (pos 0) } ∷ [])) h)
+      (then_go (λ v. pure (v ∷ [])) (zero_read (around public slots (room - 1)) spots s) refl)
+      (feed_of public (word_spot spots 4) (word_spot spots 6) party (source_at (word_spot spots 6) ((private_zero spots).node)) s (private_at (word_spot spots 6) (record { spot = word_spot spots 8; ty = int_type false; node = Number (pos 0) } ∷ [])) h)

@@ -1,11 +1,11 @@
 -- The state of a walk of the first form: a block of one cell for each name, entered in the order of the names.
-use Rattle.std.proofs.Common.{ℕ, zero, suc, ◌+◌, ◌^◌, ◌≡◌, ◌<◌, ◌≤◌, ℤ, pos, List, [], ◌∷◌, ◌++◌, length, map, Bool, true, false, Option, Some, None, Result, Ok, Err, refl, sym, ap, ◌∙◌, subst, cond, not, ◌&&◌, ◌||◌, nat_eq, nat_le, nat_lt, add-one, arith, slice_get, if◌then◌else◌, length-append}
+use Rattle.std.proofs.Common.{ℕ, zero, suc, ◌+◌, ◌^◌, ◌≡◌, ◌<◌, ℤ, pos, List, [], ◌∷◌, ◌++◌, length, map, Bool, true, false, Option, Some, None, Ok, refl, sym, ap, ◌∙◌, ◌&&◌, nat_eq, nat_le, nat_lt, add-one, arith, slice_get, if◌then◌else◌}
 use Rattle.std.proofs.lemmas.List.{map-append, length-map, length_push}
 use Rattle.std.specs.Prelude.{IsTrue}
 use Rattle.std.proofs.lemmas.Bool.Decides.{nat_tests}
 use Rattle.oc_values.specs.declared.integers.IntKind.{IntKind}
 use Rattle.oc_values.specs.declared.integers.IntKind.TheVariants.{I32}
-use Rattle.oc_tree.specs.declared.types.CType.{CType, Int}
+use Rattle.oc_tree.specs.declared.types.CType.{Int}
 use Rattle.oc_tree.specs.declared.memory.Address.TheVariants.{At}
 use Rattle.oc_tree.specs.declared.memory.CellValue.{CellValue}
 use Rattle.oc_tree.specs.declared.memory.CellValue.TheVariants.{Int as CellInt, Hidden as CellHidden}
@@ -15,9 +15,8 @@ use Rattle.oc_tree.specs.declared.run.ShownItem.{ShownItem}
 use Rattle.oc_tree.specs.declared.run.Named.{Named as Entered}
 use Rattle.oc_tree.specs.Memory.{living, make, joined, store, put, update, written, in_live}
 use Rattle.oc_tree.specs.Walking.{State, block_of}
-use Rattle.first_form.specs.Items.{Named, same_bytes, mark_of, is_marked, is_known, is_new}
+use Rattle.first_form.specs.Items.{Named, same_bytes, mark_of, is_marked, is_known}
 use Rattle.first_form.specs.Trees.{slot_of}
-use Rattle.first_form.specs.Ending.{Bound, value_of}
 
 -- a name, its mark, and the integer in its variable
 pub record Variable : Type 0 where

@@ -1,5 +1,5 @@
 -- What each statement of the first form does at a state.
-use Rattle.std.proofs.Common.{ℕ, zero, suc, ◌+◌, ◌-◌, ◌≡◌, ◌<◌, ◌≤◌, ℤ, pos, List, [], ◌∷◌, ◌++◌, length, map, Bool, true, false, Option, Some, None, Result, Ok, Err, refl, sym, ap, ◌∙◌, subst, arith, slice_get, drop}
+use Rattle.std.proofs.Common.{ℕ, suc, ◌-◌, ◌≡◌, ◌<◌, ◌≤◌, ℤ, pos, List, [], ◌∷◌, ◌++◌, length, Bool, true, false, Option, Some, None, Result, Ok, refl, sym, ap, ◌∙◌, slice_get, drop}
 use Rattle.std.specs.Prelude.{IsTrue}
 use Rattle.std.specs.List.{list_all}
 use Rattle.std.specs.Fmt.{signed_decimal}
@@ -7,7 +7,7 @@ use Rattle.std.proofs.lemmas.List.{length-map}
 use Rattle.oc_values.specs.declared.integers.IntKind.TheVariants.{I32}
 use Rattle.oc_values.specs.Integers.{convert}
 use Rattle.oc_tree.specs.declared.spot.Spot.{Spot}
-use Rattle.oc_tree.specs.declared.types.CType.{CType, Int, Pointer, Nothing as NoType}
+use Rattle.oc_tree.specs.declared.types.CType.{Int, Pointer, Nothing as NoType}
 use Rattle.oc_tree.specs.declared.types.SlotType.{SlotType}
 use Rattle.oc_tree.specs.declared.typed.TExpr.{TExpr}
 use Rattle.oc_tree.specs.declared.typed.ExprNode.{AddressOf}
@@ -20,21 +20,19 @@ use Rattle.oc_tree.specs.declared.memory.CellValue.TheVariants.{Int as CellInt, 
 use Rattle.oc_tree.specs.declared.outcome.TrapKind.{TrapKind}
 use Rattle.oc_tree.specs.declared.run.ShownItem.{ShownItem}
 use Rattle.oc_tree.specs.declared.run.ShownItem.TheVariants.{Print as Printed, Reveal as Revealed}
-use Rattle.oc_tree.specs.declared.run.Value.{Value}
-use Rattle.oc_tree.specs.declared.run.Value.TheVariants.{Int as VInt, Hidden as VHidden, Pointer as VPointer, Nothing as VNothing}
-use Rattle.oc_tree.specs.declared.run.Named.{Named as Entered}
-use Rattle.oc_tree.specs.declared.run.Flow.{Flow}
+use Rattle.oc_tree.specs.declared.run.Value.TheVariants.{Hidden as VHidden, Pointer as VPointer, Nothing as VNothing}
 use Rattle.oc_tree.specs.declared.run.Flow.TheVariants.{Next}
 use Rattle.oc_tree.specs.Memory.{make, store}
-use Rattle.oc_tree.specs.Walking.{Mem, State, Res, Go, Act, bind, after, pure, still, stilled, answered, keeps, enter, stores, makes, block_of}
+use Rattle.oc_tree.specs.Walking.{Mem, Res, Go, Act, bind, after, pure, still, stilled, answered, keeps, enter, block_of}
 use Rattle.oc_tree.specs.Values.{initializes}
-use Rattle.oc_tree.specs.Walk.{Around, deeper, whole, cost, opens, started, typed_slot, declares, declares_all, node, stepped, performs, source_at}
-use Rattle.first_form.specs.Items.{Item, Feeds, Declares, Reveals, Prints, Summand, Named, is_known, is_summand}
-use Rattle.first_form.specs.Trees.{slot_of, reading, summed, int_type, word_spot, fed, declaring, statement, variable}
-use Rattle.first_form.specs.Ending.{Bound, value_of, total, word_of}
-use Rattle.first_form.proofs.EndingState.{stands, entered_at, Variable, marks, held, blocks, extended, assigned, entered, at, made, stored, stored_last, length_extended, length_assigned, placed, named, block}
+use Rattle.oc_tree.specs.Walk.{Around, whole, cost, opens, started, typed_slot, declares, stepped, performs, source_at}
+use Rattle.first_form.specs.Items.{Feeds, Declares, Reveals, Prints, Summand, is_known, is_summand}
+use Rattle.first_form.specs.Trees.{slot_of, reading, summed, int_type, word_spot, fed, statement, variable}
+use Rattle.first_form.specs.Ending.{Bound, value_of, word_of}
+use Rattle.first_form.proofs.EndingWrap.{total}
+use Rattle.first_form.proofs.EndingState.{stands, entered_at, Variable, marks, blocks, extended, assigned, entered, at, made, stored, stored_last, length_extended, length_assigned, placed, named, block}
 use Rattle.first_form.proofs.EndingNames.{Agrees}
-use Rattle.first_form.proofs.EndingParts.{ClearState, D, then_go, around, known, value, read_known, summed_to, fed_to}
+use Rattle.first_form.proofs.EndingParts.{ClearState, D, then_go, around, known, read_known, summed_to, fed_to}
 use Rattle.first_form.proofs.EndingViews.{one_at, two_at}
 
 -- memory's answer to a new block and to a write
@@ -89,8 +87,8 @@ module _ (x y : ℤ) where
       then_go (λ _. pure Next)
       (ap (λ f. f (at vs dealt steps o)) (one_at (D x y) (around x y public slots (room - 1)) p NoType (Print (Decimal ∷ Text (10 ∷ []) ∷ [])) e)
       ∙ then_go (λ vs. still (performs (D x y) (known x y public) p (source_at e.spot e.node) (Print (Decimal ∷ Text (10 ∷ []) ∷ [])) vs))
-        (then_go (λ v. pure (v ∷ [])) (read_known x y false (around x y public slots (room - 1 - 1)) (word_spot spots 4) name vs dealt steps o h) refl)
-        (ap (λ n. Go VNothing (at vs dealt steps (o ++ Printed (signed_decimal n ++ 10 ∷ []) ∷ []))) (a.at name)))
+      (then_go (λ v. pure (v ∷ [])) (read_known x y false (around x y public slots (room - 1 - 1)) (word_spot spots 4) name vs dealt steps o h) refl)
+      (ap (λ n. Go VNothing (at vs dealt steps (o ++ Printed (signed_decimal n ++ 10 ∷ []) ∷ []))) (a.at name)))
       refl
 
   address_known : (hidden : Bool) (w : Around (D x y)) (p q : Spot) (name : List ℕ) (vs : List Variable) (dealt steps : ℕ) (o : List ShownItem) → IsTrue (is_known (marks vs) hidden name) → whole (D x y) w (record { spot = p; ty = Pointer false (int_type hidden); node = AddressOf (variable q hidden (slot_of name (marks vs))) }) (at vs dealt steps o) ≡ Go (VPointer (At (slot_of name (marks vs)) 0)) (at vs dealt steps o)
@@ -118,10 +116,10 @@ module _ (x y : ℤ) where
       then_go (λ _. pure Next)
       (ap (λ f. f (at vs dealt steps o)) (two_at (D x y) (around x y public slots (room - 1)) p NoType (Reveal I32) to from)
       ∙ then_go (λ vs. still (performs (D x y) (known x y public) p (source_at to.spot to.node) (Reveal I32) vs))
-        (then_go (λ v. bind (bind (whole (D x y) w from) (λ u. pure (u ∷ []))) (λ us. pure (v ∷ us)))
-          (address_known false w (word_spot spots 2) (word_spot spots 3) target vs dealt steps o h)
-          (then_go (λ us. pure (VPointer (At (slot_of target (marks vs)) 0) ∷ us))
-            (then_go (λ u. pure (u ∷ [])) (summed_to x y vs bs dealt steps o (word_spot spots 5) (drop 6 spots) first (value_of name bs) more a f first_is w) refl)
-            refl))
-        (reveal_written public p (source_at to.spot to.node) target (total bs (value_of name bs) more) vs dealt steps o h))
+      (then_go (λ v. bind (bind (whole (D x y) w from) (λ u. pure (u ∷ []))) (λ us. pure (v ∷ us)))
+      (address_known false w (word_spot spots 2) (word_spot spots 3) target vs dealt steps o h)
+      (then_go (λ us. pure (VPointer (At (slot_of target (marks vs)) 0) ∷ us))
+      (then_go (λ u. pure (u ∷ [])) (summed_to x y vs bs dealt steps o (word_spot spots 5) (drop 6 spots) first (value_of name bs) more a f first_is w) refl)
+      refl))
+      (reveal_written public p (source_at to.spot to.node) target (total bs (value_of name bs) more) vs dealt steps o h))
       refl

@@ -1,21 +1,18 @@
 -- What the walk does at each form of a tree.
-use Rattle.std.proofs.Common.{◌≡◌, List, [], ◌∷◌, refl, ap, ◌∙◌}
+use Rattle.std.proofs.Common.{◌≡◌, List, [], ◌∷◌, refl}
 use Rattle.oc_values.specs.declared.integers.BinaryOp.{BinaryOp}
 use Rattle.oc_tree.specs.declared.spot.Spot.{Spot}
 use Rattle.oc_tree.specs.declared.types.CType.{CType}
 use Rattle.oc_tree.specs.declared.typed.TExpr.{TExpr}
-use Rattle.oc_tree.specs.declared.typed.TPlace.{TPlace}
 use Rattle.oc_tree.specs.declared.typed.Builtin.{Builtin}
 use Rattle.oc_tree.specs.declared.typed.Builtin.TheVariants.{Private}
-use Rattle.oc_tree.specs.declared.typed.ExprNode.{Read, AddressOf, Binary, Builtin as Call}
+use Rattle.oc_tree.specs.declared.typed.ExprNode.{Binary, Builtin as Call}
 use Rattle.oc_tree.specs.declared.typed.ExprNode.TheBlock.{hidden-the_row-TExpr-0, hidden-the_row-TExpr-1}
 use Rattle.oc_tree.specs.declared.run.Source.TheVariants.{Word}
 use denote.Hole.Carrier.{hidden}
 use Rattle.oc_tree.specs.Walking.{bind, pure, still}
-use Rattle.oc_tree.specs.Values.{reads}
 use Rattle.oc_tree.specs.Domain.{Domain}
-use Rattle.oc_tree.specs.Walk.{Around, deeper, expr, place, whole, operates, performs, source_at}
-use Rattle.oc_tree.specs.declared.run.Value.TheVariants.{Pointer}
+use Rattle.oc_tree.specs.Walk.{Around, deeper, expr, whole, operates, performs, source_at}
 
 pub private_at : (p : Spot) (es : List TExpr) → source_at p (Call Private es) ≡ Word p
 unfolding hidden-the_row-TExpr-1 hidden

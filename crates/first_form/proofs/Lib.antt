@@ -5,3 +5,5 @@ pub mod EndingViews
 pub mod EndingParts
 pub mod EndingSteps
 pub mod EndingItems
+pub mod EndingSample
+pub mod EndingWrap

@@ -1,8 +1,10 @@
 -- How a program of the first form ends, and what it shows, in words that know neither memory nor steps.
-use Rattle.std.specs.Prelude.{ℕ, nat_eq, ◌≡◌, ◌≤◌, ◌↔◌, ℤ, pos, List, [], ◌∷◌, ◌++◌, if◌then◌else◌}
+use Rattle.std.specs.Prelude.{ℕ, nat_eq, ◌≡◌, ◌≤◌, ◌↔◌, ℤ, pos, ◌+ℤ◌, ◌-ℤ◌, List, [], ◌∷◌, ◌++◌, if◌then◌else◌}
 use Rattle.std.specs.Fmt.{signed_decimal}
-use Rattle.oc_values.specs.Integers.{operate, convert}
+use Rattle.oc_values.specs.Integers.{wrap}
 use Rattle.oc_values.specs.declared.integers.IntKind.TheVariants.{I32}
+use Rattle.oc_values.specs.declared.integers.BinaryOp.{BinaryOp}
+use Rattle.oc_values.specs.declared.integers.BinaryOp.TheVariants.{Add}
 use Rattle.oc_tree.specs.declared.run.ShownItem.{ShownItem}
 use Rattle.oc_tree.specs.declared.run.ShownItem.TheVariants.{Print, Reveal}
 use Rattle.oc_tree.specs.declared.run.ClearSetup.{ClearSetup}
@@ -23,22 +25,27 @@ abbrev pub value_of : List ℕ → List Bound → ℤ
 value_of name [] = pos 0
 value_of name (b ∷ bs) = if same_bytes name b.name then b.value else value_of name bs
 
--- a sum or a difference after another, from the left, each wrapped to 32 bits
-abbrev pub total : List Bound → ℤ → List Summand → ℤ
-total bs n [] = n
-total bs n (s ∷ ss) = total bs (operate s.op I32 n (value_of s.name bs)) ss
+-- a sum, or else a difference
+abbrev pub plus_or_minus : BinaryOp → ℤ → ℤ → ℤ
+plus_or_minus Add m n = m +ℤ n
+plus_or_minus _ m n = m -ℤ n
 
--- what a reveal shows
+-- the integer n, and what these names add to it and take from it
+abbrev pub sum_of : List Bound → ℤ → List Summand → ℤ
+sum_of bs n [] = n
+sum_of bs n (s ∷ ss) = sum_of bs (plus_or_minus s.op n (value_of s.name bs)) ss
+
+-- what a reveal shows: the sum, wrapped to 32 bits
 abbrev pub revealed : List Bound → List ℕ → List Summand → ℤ
-revealed bs name more = total bs (value_of name bs) more
+revealed bs name more = wrap I32 (sum_of bs (value_of name bs) more)
 
--- the word of a party, of the first one's and the second one's
+-- the word of a party: x of the first, y of the second
 abbrev pub word_of : ℤ → ℤ → ℕ → ℤ
 word_of x y party = if nat_eq party 1 then x else y
 
--- the names after an item: a fed name stands for the word of its party, and a target for what was revealed to it
+-- the names after an item: a fed name stands for the word of its party, wrapped to 32 bits, and a target for what was revealed to it
 abbrev pub bound_after : ℤ → ℤ → Item → List Bound → List Bound
-bound_after x y (Feeds name party) bs = record { name = name; value = convert (word_of x y party) I32 } ∷ bs
+bound_after x y (Feeds name party) bs = record { name = name; value = wrap I32 (word_of x y party) } ∷ bs
 bound_after x y (Declares name) bs = bs
 bound_after x y (Reveals target name more) bs = record { name = target; value = revealed bs name more } ∷ bs
 bound_after x y (Prints name) bs = bs
@@ -66,7 +73,7 @@ EndsDone =
     → First source t → 3200 ≤ dealt → 100 ≤ budget
     → Clear t (one_word_each public x y dealt budget) items outcome → outcome ≡ Done
 
--- there it shows what its items show, ends, and nothing else
+-- there it ends, having shown what its items show, and has no other outcome
 abbrev pub ShowsItems : Type 0
 ShowsItems =
     (source : List ℕ) (t : Typed) (x y : ℤ) (public : List ℤ) (dealt budget : ℕ) (items : List ShownItem) (outcome : Outcome)
