@@ -1,1 +1,9 @@
 pub mod Sample
+pub mod EndingState
+pub mod EndingNames
+pub mod EndingViews
+pub mod EndingParts
+pub mod EndingSteps
+pub mod EndingItems
+pub mod EndingSample
+pub mod EndingWrap
