@@ -1,2 +1,5 @@
 pub mod Fits
 pub mod InputForm
+pub mod Fronts
+pub mod Stages
+pub mod Files

@@ -10,9 +10,10 @@ use Rattle.oc_tree.specs.declared.outcome.Outcome.TheVariants.{Done}
 use Rattle.oc_tree.specs.declared.program.Typed.{Typed}
 use Rattle.oc_tree.specs.Clear.{Clear}
 use Rattle.oc_tree.specs.Shown.{shown}
+use Rattle.clear_run.specs.declared.run.ClearRun.{ClearRun}
 use Rattle.oblivc_main.specs.Reading.{Told, Accepts, Refuses, HasWord, HasNoWord, Unreadable}
 use Rattle.oblivc_main.specs.declared.stop.Stop.{Stop}
-use Rattle.oblivc_main.specs.declared.stop.Stop.TheVariants.{Refused, Unread, WrongInput, Output, NoMemory}
+use Rattle.oblivc_main.specs.declared.stop.Stop.TheVariants.{Refused, Unread, WrongInput, Unwritten, NoMemory}
 use Rattle.oblivc_main.specs.declared.stop.Which.{Which}
 use Rattle.oblivc_main.specs.declared.stop.Which.TheVariants.{Source, First, Second}
 
@@ -20,66 +21,80 @@ use Rattle.oblivc_main.specs.declared.stop.Which.TheVariants.{Source, First, Sec
 abbrev pub setup_of : ℤ → ℤ → ClearSetup
 setup_of first second = record { public = []; first = first ∷ []; second = second ∷ []; dealt = 1048576; budget = 1000000000 }
 
--- a call of the command
-pub record Call : Type 0 where
-  pub file : List ℕ
-  pub first : List ℕ
-  pub second : List ℕ
-  -- what the vault tells of each name, its faults before and after, and the name that failed last
+-- the files of a call: what the vault tells of each name, its faults before and after, the name that failed last, and
+-- the names of the source and of the inputs of both parties
+pub record Files : Type 0 where
   pub told : Told
   pub faults_before : ℕ
   pub faults_after : ℕ
   pub failed : Option (List ℕ)
-  -- the faults of the output before and after, and what was written to it before and after
-  pub out_faults_before : ℕ
-  pub out_faults_after : ℕ
+  pub source : List ℕ
+  pub first : List ℕ
+  pub second : List ℕ
+
+-- the output of a call: its faults before and after, and what was written to it before and after
+pub record Output : Type 0 where
+  pub faults_before : ℕ
+  pub faults_after : ℕ
   pub before : Option (List ℕ)
   pub after : Option (List ℕ)
 
 -- the source is accepted, both inputs have their form, and the program shows these items and ends Done
-pub record Shows (c : Call) (items : List ShownItem) : Type 0 where
+pub record Shows (f : Files) (items : List ShownItem) : Type 0 where
   pub tree : Typed
   pub first_word : ℤ
   pub second_word : ℤ
-  pub accepted : Accepts c.told c.file tree
-  pub first_input : HasWord c.told c.first first_word
-  pub second_input : HasWord c.told c.second second_word
+  pub accepted : Accepts f.told f.source tree
+  pub first_input : HasWord f.told f.first first_word
+  pub second_input : HasWord f.told f.second second_word
   pub meaning : Clear tree (setup_of first_word second_word) items Done
 
 -- all was printed, or nothing, or a front of it
-abbrev pub PrintsAll : Call → Type 0
-PrintsAll c = (items : List ShownItem) × Shows c items × (c.after ≡ appended (shown items) c.before)
+abbrev pub PrintsAll : Files → Output → Type 0
+PrintsAll f o = (items : List ShownItem) × Shows f items × (o.after ≡ appended (shown items) o.before)
 
-abbrev pub PrintsNothing : Call → Type 0
-PrintsNothing c = c.after ≡ c.before
+abbrev pub PrintsNothing : Output → Type 0
+PrintsNothing o = o.after ≡ o.before
 
-abbrev pub PrintsFront : Call → Type 0
-PrintsFront c = (items : List ShownItem) × Shows c items × (n : ℕ) × (n ≤ length (shown items)) × (c.after ≡ appended (take n (shown items)) c.before)
+abbrev pub PrintsFront : Files → Output → Type 0
+PrintsFront f o = (items : List ShownItem) × Shows f items × (n : ℕ) × (n ≤ length (shown items)) × (o.after ≡ appended (take n (shown items)) o.before)
 
-abbrev pub name_of : Call → Which → List ℕ
-name_of c Source = c.file
-name_of c First = c.first
-name_of c Second = c.second
+abbrev pub name_of : Files → Which → List ℕ
+name_of f Source = f.source
+name_of f First = f.first
+name_of f Second = f.second
 
 -- what was read before a file
-abbrev pub ReadsUpTo : Call → Which → Type 0
-ReadsUpTo c Source = Unit {0}
-ReadsUpTo c First = (t : Typed) × Accepts c.told c.file t
-ReadsUpTo c Second = (t : Typed) × Accepts c.told c.file t × (word : ℤ) × HasWord c.told c.first word
+abbrev pub ReadsUpTo : Files → Which → Type 0
+ReadsUpTo f Source = Unit {0}
+ReadsUpTo f First = (t : Typed) × Accepts f.told f.source t
+ReadsUpTo f Second = (t : Typed) × Accepts f.told f.source t × (word : ℤ) × HasWord f.told f.first word
 
-abbrev pub IsWrong : Call → Which → Type 0
-IsWrong c Source = ⊥
-IsWrong c First = HasNoWord c.told c.first
-IsWrong c Second = HasNoWord c.told c.second
+abbrev pub IsUnreadable : Files → Which → Type 0
+IsUnreadable f which = ReadsUpTo f which × Unreadable f.told f.faults_before f.faults_after f.failed (name_of f which)
+
+abbrev pub IsWrong : Files → Which → Type 0
+IsWrong f Source = ⊥
+IsWrong f First = ReadsUpTo f First × HasNoWord f.told f.first
+IsWrong f Second = ReadsUpTo f Second × HasNoWord f.told f.second
 
 -- the cause of each end
-abbrev pub Ends : Call → Result (Unit {0}) Stop → Type 0
-Ends c (Ok u) = PrintsAll c
-Ends c (Err Refused) = Refuses c.told c.file × PrintsNothing c
-Ends c (Err (Unread which)) = ReadsUpTo c which × Unreadable c.told c.faults_before c.faults_after c.failed (name_of c which) × PrintsNothing c
-Ends c (Err (WrongInput which)) = ReadsUpTo c which × IsWrong c which × PrintsNothing c
-Ends c (Err Output) = Rose c.out_faults_before c.out_faults_after × PrintsFront c
-Ends c (Err NoMemory) = PrintsNothing c ⊎ PrintsFront c
+abbrev pub Ends : Files → Output → Result (Unit {0}) Stop → Type 0
+Ends f o (Ok u) = PrintsAll f o
+Ends f o (Err Refused) = Refuses f.told f.source × PrintsNothing o
+Ends f o (Err (Unread which)) = IsUnreadable f which × PrintsNothing o
+Ends f o (Err (WrongInput which)) = IsWrong f which × PrintsNothing o
+Ends f o (Err Unwritten) = Rose o.faults_before o.faults_after × PrintsFront f o
+Ends f o (Err NoMemory) = PrintsNothing o ⊎ PrintsFront f o
+
+-- what reading the files and running the program answers
+abbrev pub Runs : Files → Result ClearRun Stop → Type 0
+Runs f (Ok run) = Shows f run.shown
+Runs f (Err Refused) = Refuses f.told f.source
+Runs f (Err (Unread which)) = IsUnreadable f which
+Runs f (Err (WrongInput which)) = IsWrong f which
+Runs f (Err Unwritten) = ⊥
+Runs f (Err NoMemory) = Unit {0}
 
 -- what reading the source answers
 abbrev pub ReadSource : Told → ℕ → ℕ → Option (List ℕ) → List ℕ → Result Typed Stop → Type 0

@@ -18,6 +18,6 @@ pub enum Stop {
     /// An input file isn't one line of its form.
     WrongInput(Which),
     /// Writing the output failed.
-    Output,
+    Unwritten,
     NoMemory,
 }

@@ -1,0 +1,74 @@
+-- What was read of a file, up to a limit, says of the whole file what its form needs.
+use Rattle.std.proofs.Common.{ℕ, zero, suc, ◌+◌, ◌-◌, ◌*◌, ◌^◌, ◌≡◌, ◌<◌, ◌≤◌, ℤ, List, [], ◌∷◌, ◌++◌, length, take, drop, Option, Some, None, Bool, true, false, refl, sym, ap, ◌∙◌, subst, arith, length-append, min, inl, inr}
+use Rattle.std.specs.Prelude.{◌⊎◌}
+use Rattle.std.specs.Prelude.{IfSome, IsSomeAnd}
+use Rattle.std.proofs.lemmas.List.{take_all, length-take}
+use Rattle.std.proofs.Common.{pos, negsuc, SFits, w64}
+use Rattle.std.specs.Prelude.{IsTrue}
+use Rattle.std.proofs.lemmas.Bool.{ltb-true}
+use Rattle.oc_values.specs.Integers.{is_in_bits}
+use Rattle.oc_tree.specs.declared.program.Typed.{Typed}
+use Rattle.first_form.specs.First.{First}
+use Rattle.oblivc_main.specs.Inputs.{IsInput, sign_of, line_end}
+use Rattle.oblivc_main.specs.Reading.{Accepts, Refuses, HasWord, HasNoWord, Told, Holds}
+
+-- what is told of a name says that these bytes are the front of the whole
+abbrev pub Fronts : Option (Option (List ℕ)) → ℕ → List ℕ → Type 0
+Fronts told limit bytes = IfSome told (λ held. IsSomeAnd held (λ whole. bytes ≡ take limit whole))
+
+below_limit : (whole bytes : List ℕ) (limit : ℕ) → bytes ≡ take limit whole → length bytes < limit → whole ≡ bytes
+below_limit whole bytes limit e lt =
+    let n : length bytes ≡ min limit (length whole) = ap length e ∙ length-take limit whole in
+    sym (e ∙ take_all limit whole (omega arith))
+
+-- where fewer bytes were read than the limit, the name holds them
+whole_held : (held : Option (List ℕ)) (bytes : List ℕ) (limit : ℕ) → IsSomeAnd held (λ whole. bytes ≡ take limit whole) → length bytes < limit → held ≡ Some bytes
+whole_held None bytes limit h lt = absurd h
+whole_held (Some whole) bytes limit h lt = ap Some (below_limit whole bytes limit h lt)
+
+whole_told : (told : Option (Option (List ℕ))) (bytes : List ℕ) (limit : ℕ) → Fronts told limit bytes → length bytes < limit → IfSome told (λ held. held ≡ Some bytes)
+whole_told None bytes limit h lt = tt
+whole_told (Some held) bytes limit h lt = whole_held held bytes limit h lt
+
+-- some bytes that the name holds, of which these are the front
+some_told : (told : Option (Option (List ℕ))) (bytes : List ℕ) (limit : ℕ) → Fronts told limit bytes → (whole : List ℕ) × (IfSome told (λ held. held ≡ Some whole)) × ((bytes ≡ take limit whole) ⊎ (bytes ≡ whole))
+some_told None bytes limit h = (bytes, tt, inr refl)
+some_told (Some None) bytes limit h = absurd h
+some_told (Some (Some whole)) bytes limit h = (whole, refl, inl h)
+
+pub accepted : (told : Told) (file bytes : List ℕ) (t : Typed) → Fronts (told file) 1048577 bytes → First bytes t → Accepts told file t
+accepted told file bytes t h f = (bytes, whole_told (told file) bytes 1048577 h (omega (arith, f.size)), f)
+
+-- a text whose front has no tree has none
+front_first : (whole bytes : List ℕ) → (bytes ≡ take 1048577 whole) ⊎ (bytes ≡ whole) → (t : Typed) → First whole t → First bytes t
+front_first whole bytes (inl e) t f = subst (λ s. First s t) (sym (e ∙ take_all 1048577 whole (omega (arith, f.size)))) f
+front_first whole bytes (inr e) t f = subst (λ s. First s t) (sym e) f
+
+pub refused : (told : Told) (file bytes : List ℕ) → Fronts (told file) 1048577 bytes → ((t : Typed) → First bytes t → ⊥) → Refuses told file
+refused told file bytes h n = let w = some_told (told file) bytes 1048577 h in (w.0, w.1, λ t f. n t (front_first w.0 bytes w.2 t f))
+
+ends_short : (m e : Bool) (digits : List ℕ) → length digits ≤ 19 → length (sign_of m ++ digits ++ line_end e) ≤ 21
+ends_short true true digits h = omega (arith, length-append (45 ∷ digits) (10 ∷ []))
+ends_short true false digits h = omega (arith, length-append (45 ∷ digits) [])
+ends_short false true digits h = omega (arith, length-append digits (10 ∷ []))
+ends_short false false digits h = omega (arith, length-append digits [])
+
+input_short : (bytes : List ℕ) (w : ℤ) → IsInput bytes w → length bytes ≤ 21
+input_short bytes w i = subst (λ xs. length xs ≤ 21) (sym i.text) (ends_short i.minus i.ended i.digits i.most)
+
+fits_word : (w : ℤ) → IsTrue (is_in_bits true 64 w) → SFits w64 w
+fits_word (pos n) h = omega (arith, ltb-true n (2 ^ 63) h)
+fits_word (negsuc n) h = omega (arith, ltb-true n (2 ^ 63) h)
+
+pub input_fits : (bytes : List ℕ) (w : ℤ) → IsInput bytes w → SFits w64 w
+input_fits bytes w i = fits_word w i.range
+
+pub has_word : (told : Told) (name bytes : List ℕ) (w : ℤ) → Fronts (told name) 1376277 bytes → IsInput bytes w → HasWord told name w
+has_word told name bytes w h i = (bytes, whole_told (told name) bytes 1376277 h (let s = input_short bytes w i in omega arith), i)
+
+front_input : (whole bytes : List ℕ) → (bytes ≡ take 1376277 whole) ⊎ (bytes ≡ whole) → (w : ℤ) → IsInput whole w → IsInput bytes w
+front_input whole bytes (inl e) w i = subst (λ s. IsInput s w) (sym (e ∙ take_all 1376277 whole (let s = input_short whole w i in omega arith))) i
+front_input whole bytes (inr e) w i = subst (λ s. IsInput s w) (sym e) i
+
+pub has_no_word : (told : Told) (name bytes : List ℕ) → Fronts (told name) 1376277 bytes → ((w : ℤ) → IsInput bytes w → ⊥) → HasNoWord told name
+has_no_word told name bytes h n = let w = some_told (told name) bytes 1376277 h in (w.0, w.1, λ x i. n x (front_input w.0 bytes w.2 x i))

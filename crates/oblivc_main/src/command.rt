@@ -1,0 +1,102 @@
+//! The command `clear`.
+
+ghost use Rattle.std.specs.Prelude.{◌≡◌, ◌≤◌, [], ◌∷◌, IfOk};
+ghost use Rattle.oc_tree.specs.Clear.{Clear};
+ghost use Rattle.oblivc_main.specs.Endings.{Ends, Runs, setup_of};
+
+use crate::printing::print_all;
+use crate::reading::{read_source, read_word};
+use crate::stop::{Stop, Which};
+use clear_run::{ClearRun, run_first};
+use oc_outside::{PutEnd, Sink, Vault};
+use oc_tree::{ClearSetup, Typed};
+use oc_values::{Items, NoMemory};
+use std::alloc::Global;
+
+/// How many transfers are dealt: as many as a session may have.
+const DEALT: u32 = 1_048_576;
+
+/// How many steps a run may take.
+const BUDGET: u64 = 1_000_000_000;
+
+/// A list of one word.
+fn one_word(alloc: Global, word: i64) -> Result<Items<i64>, NoMemory>
+    ensures { IfOk result (λ words. words ≡ word ∷ []) }
+{
+    let mut words = Items::new(alloc);
+    words.push(word)?;
+    Ok(words)
+}
+
+/// Runs a program on one word of each party.
+fn run_words(alloc: Global, typed: &Typed, first: i64, second: i64) -> Result<ClearRun, NoMemory>
+    ensures { IfOk result (λ run. Clear typed.now (setup_of first second) run.shown run.outcome) }
+{
+    let setup = ClearSetup {
+        public: Items::new(alloc),
+        first: one_word(alloc, first)?,
+        second: one_word(alloc, second)?,
+        dealt: DEALT,
+        budget: BUDGET,
+    };
+    run_first(alloc, typed, &setup)
+}
+
+/// Reads the source and both inputs, in this order, and runs the program.
+fn run_files<V: Vault>(alloc: Global, file: &str, first: &str, second: &str, files: &mut V) -> Result<ClearRun, Stop>
+    ensures end { Runs (record {
+        told = V.contents files.old;
+        faults_before = V.faults files.old;
+        faults_after = V.faults files.new;
+        failed = V.failed files.new;
+        source = file.now;
+        first = first.now;
+        second = second.now;
+    }) result }
+    ensures never_falls { V.faults files.old ≤ V.faults files.new }
+    ensures unchanged { V.contents files.new ≡ V.contents files.old }
+{
+    let typed = read_source(alloc, files, file)?;
+    let first_word = read_word(alloc, files, first, Which::First)?;
+    let second_word = read_word(alloc, files, second, Which::Second)?;
+    match run_words(alloc, &typed, first_word, second_word) {
+        Ok(run) => Ok(run),
+        Err(_) => Err(Stop::NoMemory),
+    }
+}
+
+/// Reads the files of a command, runs its program and prints what it shows. A program of the first form
+/// always ends, so its outcome isn't asked for.
+pub fn clear<V: Vault, S: Sink>(
+    alloc: Global,
+    file: &str,
+    first: &str,
+    second: &str,
+    files: &mut V,
+    out: &mut S,
+) -> Result<(), Stop>
+    ensures end { Ends (record {
+        told = V.contents files.old;
+        faults_before = V.faults files.old;
+        faults_after = V.faults files.new;
+        failed = V.failed files.new;
+        source = file.now;
+        first = first.now;
+        second = second.now;
+    }) (record {
+        faults_before = S.faults out.old;
+        faults_after = S.faults out.new;
+        before = S.written out.old;
+        after = S.written out.new;
+    }) result }
+    ensures never_falls { V.faults files.old ≤ V.faults files.new }
+    ensures out_never_falls { S.faults out.old ≤ S.faults out.new }
+    ensures unchanged { V.contents files.new ≡ V.contents files.old }
+{
+    let run = run_files(alloc, file, first, second, files)?;
+    match print_all(alloc, out, run.shown.as_slice()) {
+        PutEnd::Done => Ok(()),
+        PutEnd::Failed => Err(Stop::Unwritten),
+        PutEnd::NoMemory => Err(Stop::NoMemory),
+    }
+}
