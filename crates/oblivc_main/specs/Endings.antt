@@ -59,10 +59,14 @@ PrintsNothing o = o.after ≡ o.before
 abbrev pub PrintsFront : Files → Output → Type 0
 PrintsFront f o = (items : List ShownItem) × Shows f items × (n : ℕ) × (n ≤ length (shown items)) × (o.after ≡ appended (take n (shown items)) o.before)
 
+-- the name of one of the three files
+abbrev pub named : List ℕ → List ℕ → List ℕ → Which → List ℕ
+named source first second Source = source
+named source first second First = first
+named source first second Second = second
+
 abbrev pub name_of : Files → Which → List ℕ
-name_of f Source = f.source
-name_of f First = f.first
-name_of f Second = f.second
+name_of f which = named f.source f.first f.second which
 
 -- what was read before a file
 abbrev pub ReadsUpTo : Files → Which → Type 0

@@ -5,3 +5,4 @@ pub mod InputParts
 pub mod Reading
 pub mod Endings
 pub mod Lines
+pub mod Statuses

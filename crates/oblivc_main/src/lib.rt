@@ -5,5 +5,6 @@ pub mod command;
 pub mod inputs;
 pub mod printing;
 pub mod reading;
+pub mod saying;
 pub mod stop;
 pub mod words;

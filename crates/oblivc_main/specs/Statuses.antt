@@ -1,0 +1,115 @@
+-- What the program answers: a status, with its cause, what was printed, and the line that goes to the error stream.
+use Rattle.std.specs.Prelude.{ℕ, ◌+◌, ◌≡◌, ◌≤◌, List, Option, Some, ◌⊎◌, ℤ}
+use Rattle.oc_outside.specs.Counts.{Rose}
+use Rattle.oc_outside.specs.Told.{appended}
+use Rattle.oc_tree.specs.declared.program.Typed.{Typed}
+use Rattle.first_form.specs.First.{First as Reads}
+use Rattle.oblivc_main.specs.Inputs.{IsInput}
+use Rattle.oblivc_main.specs.Reading.{Told, Refuses}
+use Rattle.oblivc_main.specs.Words.{IsClear, Usage}
+use Rattle.oblivc_main.specs.Lines.{usage_line, refused_line, file_line, input_line, output_line, memory_line}
+use Rattle.oblivc_main.specs.Endings.{Files, Output, PrintsAll, PrintsNothing, PrintsFront, IsUnreadable, IsWrong, named, name_of}
+use Rattle.oblivc_main.specs.declared.stop.Stop.{Stop}
+use Rattle.oblivc_main.specs.declared.stop.Stop.TheVariants.{Refused, Unread, WrongInput, Unwritten, NoMemory}
+use Rattle.oblivc_main.specs.declared.stop.Which.{Which}
+
+-- a call of the program: its words, what the vault tells of each name, the vault's faults before and after and the name
+-- that failed last, the output, and the error stream
+pub record Call : Type 0 where
+  pub words : List (List ℕ)
+  pub told : Told
+  pub faults_before : ℕ
+  pub faults_after : ℕ
+  pub failed : Option (List ℕ)
+  pub out : Output
+  pub err : Output
+
+-- the files of a call with these names
+abbrev pub files_of : Call → List ℕ → List ℕ → List ℕ → Files
+files_of c source first second = record { told = c.told; faults_before = c.faults_before; faults_after = c.faults_after; failed = c.failed; source = source; first = first; second = second }
+
+-- a fact of the files, where the words are a command
+abbrev pub OfCommand : Call → (Files → Type 0) → Type 0
+OfCommand c fact = (source : List ℕ) × (first : List ℕ) × (second : List ℕ) × IsClear c.words source first second × fact (files_of c source first second)
+
+-- the line was appended, unless the faults rose
+abbrev pub Says : Output → List ℕ → Type 0
+Says e line = (Rose e.faults_before e.faults_after → ⊥) → e.after ≡ appended line e.before
+
+-- a file can't be read: its name is on the line
+abbrev pub SaysFile : Output → Files → Type 0
+SaysFile e f = (which : Which) × IsUnreadable f which × Says e (file_line (name_of f which))
+
+-- the cause of each status, and what was written
+abbrev pub IsDone : Call → Type 0
+IsDone c = OfCommand c (λ f. PrintsAll f c.out) × PrintsNothing c.err
+
+abbrev pub IsRefused : Call → Type 0
+IsRefused c = OfCommand c (λ f. Refuses f.told f.source) × PrintsNothing c.out × Says c.err refused_line
+
+abbrev pub IsUsage : Call → Type 0
+IsUsage c = (k : ℕ) × Usage c.words k × PrintsNothing c.out × Says c.err (usage_line k)
+
+abbrev pub IsUnread : Call → Type 0
+IsUnread c = OfCommand c (λ f. SaysFile c.err f) × PrintsNothing c.out
+
+abbrev pub IsWrongInput : Call → Type 0
+IsWrongInput c = OfCommand c (λ f. (which : Which) × IsWrong f which) × PrintsNothing c.out × Says c.err input_line
+
+abbrev pub IsWithoutMemory : Call → Type 0
+IsWithoutMemory c = PrintsNothing c.out ⊎ OfCommand c (λ f. PrintsFront f c.out)
+
+abbrev pub IsUnwritten : Call → Type 0
+IsUnwritten c = OfCommand c (λ f. PrintsFront f c.out) × Rose c.out.faults_before c.out.faults_after × Says c.err output_line
+
+-- there is no other status
+pub data Answered (c : Call) (status : ℕ) : Type 0 where
+  done : status ≡ 0 → IsDone c → Answered c status
+  refused : status ≡ 1 → IsRefused c → Answered c status
+  usage : status ≡ 2 → IsUsage c → Answered c status
+  unread : status ≡ 5 → IsUnread c → Answered c status
+  wrong_input : status ≡ 9 → IsWrongInput c → Answered c status
+  without_memory : status ≡ 10 → IsWithoutMemory c → Answered c status
+  unwritten : status ≡ 11 → IsUnwritten c → Answered c status
+
+-- no fault of the vault or of the output rose
+abbrev pub IsFaultless : Call → Type 0
+IsFaultless c = (Rose c.faults_before c.faults_after → ⊥) × (Rose c.out.faults_before c.out.faults_after → ⊥)
+
+-- the vault tells of each file of the command that it has its form
+pub record HasForms (f : Files) : Type 0 where
+  pub source : List ℕ
+  pub source_told : f.told f.source ≡ Some (Some source)
+  pub tree : Typed
+  pub accepted : Reads source tree
+  pub first : List ℕ
+  pub first_told : f.told f.first ≡ Some (Some first)
+  pub first_word : ℤ
+  pub first_form : IsInput first first_word
+  pub second : List ℕ
+  pub second_told : f.told f.second ≡ Some (Some second)
+  pub second_word : ℤ
+  pub second_form : IsInput second second_word
+
+-- where all files have their form and nothing fails, the answer is 0, or want of memory
+abbrev pub Completes : Call → ℕ → Type 0
+Completes c status = OfCommand c HasForms → IsFaultless c → (status ≡ 0) ⊎ (status ≡ 10)
+
+-- the status of a stop, and its line
+abbrev pub status_of : Stop → ℕ
+status_of Refused = 1
+status_of (Unread which) = 5
+status_of (WrongInput which) = 9
+status_of Unwritten = 11
+status_of NoMemory = 10
+
+abbrev pub line_of : List ℕ → List ℕ → List ℕ → Stop → List ℕ
+line_of source first second Refused = refused_line
+line_of source first second (Unread which) = file_line (named source first second which)
+line_of source first second (WrongInput which) = input_line
+line_of source first second Unwritten = output_line
+line_of source first second NoMemory = memory_line
+
+-- what saying a line answers: this status, where the line was appended or the faults rose, or want of memory
+abbrev pub Said : Output → List ℕ → ℕ → ℕ → Type 0
+Said e line status result = ((result ≡ status) × Says e line) ⊎ (result ≡ 10)

@@ -1,0 +1,82 @@
+//! The line on the error stream.
+
+ghost use Rattle.std.specs.Prelude.{◌≡◌, ℕ, List, IfOk, string_bytes};
+ghost use Rattle.oblivc_main.specs.Lines.{usage_line, file_line};
+ghost use Rattle.oblivc_main.specs.Statuses.{Said, line_of, status_of};
+
+use crate::stop::{Stop, Which};
+use oc_outside::{PutEnd, Sink, write_all};
+use std::alloc::{AllocError, Global};
+
+/// The status for want of memory.
+pub const NO_MEMORY: u8 = 10;
+
+/// The line for words that aren't a command.
+pub fn line_for_usage(alloc: Global, k: usize) -> Result<String, AllocError>
+    ensures { IfOk result (λ line. string_bytes line ≡ usage_line k) }
+{
+    format!(in alloc; "usage {k}\n")
+}
+
+/// The line for a file that can't be read.
+pub fn line_for_file(alloc: Global, name: &str) -> Result<String, AllocError>
+    ensures { IfOk result (λ line. string_bytes line ≡ file_line name.now) }
+{
+    format!(in alloc; "file {name}\n")
+}
+
+/// Writes the line, and answers the status. Where that fails the status stays, and where it finds no
+/// memory the status is another.
+pub fn say<E: Sink>(err: &mut E, line: &str, status: u8) -> u8
+    ensures { Said (record {
+        faults_before = E.faults err.old;
+        faults_after = E.faults err.new;
+        before = E.written err.old;
+        after = E.written err.new;
+    }) line.now status result }
+{
+    match write_all(err, line.as_bytes()) {
+        PutEnd::Done | PutEnd::Failed => status,
+        PutEnd::NoMemory => NO_MEMORY,
+    }
+}
+
+/// Writes a line that may have found no memory.
+pub fn say_line<E: Sink>(err: &mut E, line: Result<String, AllocError>, status: u8) -> u8
+    ensures { (wanted : List ℕ) → IfOk line (λ text. string_bytes text ≡ wanted) → Said (record {
+        faults_before = E.faults err.old;
+        faults_after = E.faults err.new;
+        before = E.written err.old;
+        after = E.written err.new;
+    }) wanted status result }
+{
+    match line {
+        Ok(text) => say(err, text.as_str(), status),
+        Err(_) => NO_MEMORY,
+    }
+}
+
+/// Says why the command ended, and answers its status.
+pub fn report<E: Sink>(alloc: Global, stop: Stop, source: &str, first: &str, second: &str, err: &mut E) -> u8
+    ensures { Said (record {
+        faults_before = E.faults err.old;
+        faults_after = E.faults err.new;
+        before = E.written err.old;
+        after = E.written err.new;
+    }) (line_of source.now first.now second.now stop) (status_of stop) result }
+{
+    match stop {
+        Stop::Refused => say(err, "refused X1 1:1\n", 1),
+        Stop::Unread(which) => {
+            let name = match which {
+                Which::Source => source,
+                Which::First => first,
+                Which::Second => second,
+            };
+            say_line(err, line_for_file(alloc, name), 5)
+        }
+        Stop::WrongInput(_) => say(err, "input 1\n", 9),
+        Stop::Unwritten => say(err, "output\n", 11),
+        Stop::NoMemory => say(err, "memory\n", NO_MEMORY),
+    }
+}
