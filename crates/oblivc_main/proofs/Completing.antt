@@ -1,0 +1,68 @@
+-- Where all files have their form and nothing fails, no other status has a cause.
+use Rattle.std.proofs.Common.{ℕ, ◌+◌, ◌≡◌, ◌<◌, ◌≤◌, List, [], ◌∷◌, length, get_or, Option, Some, None, Result, Ok, Err, refl, sym, ap, ◌∙◌, subst, arith, inl, inr, ℤ}
+use Rattle.std.specs.Prelude.{◌⊎◌, IfSome}
+use Rattle.std.specs.Option.{unwrap_or}
+use Rattle.std.proofs.lemmas.Option.{none-some}
+use Rattle.oc_outside.specs.Counts.{Rose}
+use Rattle.oc_tree.specs.declared.program.Typed.{Typed}
+use Rattle.first_form.specs.First.{First as Reads}
+use Rattle.oblivc_main.specs.Inputs.{IsInput}
+use Rattle.oblivc_main.specs.Reading.{Told, Holds, IsAbsent, Unreadable, Refuses, HasNoWord}
+use Rattle.oblivc_main.specs.Words.{IsCommand, IsClear, Usage, clear_words}
+use Rattle.oblivc_main.specs.Endings.{Files, Output, IsWrong, IsUnreadable, name_of}
+use Rattle.oblivc_main.specs.Statuses.{Call, files_of, OfCommand, HasForms, IsFaultless, Completes, Answered, done, refused, usage, unread, wrong_input, without_memory, unwritten, SaysFile}
+use Rattle.oblivc_main.specs.declared.stop.Which.{Which}
+use Rattle.oblivc_main.specs.declared.stop.Which.TheVariants.{Source, First, Second}
+
+just : {A : Type 0} (x y : A) → Some x ≡ Some y → x ≡ y
+just x y e = ap (λ o. unwrap_or o x) e
+
+-- what is told of a name is what it holds
+held : (told : Told) (name bytes whole : List ℕ) → told name ≡ Some (Some whole) → Holds told name bytes → whole ≡ bytes
+held told name bytes whole e h = just whole bytes (subst (λ t. IfSome t (λ o. o ≡ Some bytes)) e h)
+
+present : (told : Told) (name whole : List ℕ) → told name ≡ Some (Some whole) → IsAbsent told name → ⊥
+present told name whole e h = none-some whole (sym (subst (λ t. IfSome t (λ o. o ≡ None)) e h))
+
+readable : (f : Files) (name whole : List ℕ) → f.told name ≡ Some (Some whole) → (Rose f.faults_before f.faults_after → ⊥) → Unreadable f.told f.faults_before f.faults_after f.failed name → ⊥
+readable f name whole e faultless (inl absent) = present f.told name whole e absent
+readable f name whole e faultless (inr rose) = faultless rose.0
+
+module _ (f : Files) (h : HasForms f) where
+  not_refused : Refuses f.told f.source → ⊥
+  not_refused r = r.2 h.tree (subst (λ s. Reads s h.tree) (held f.told f.source r.0 h.source h.source_told r.1) h.accepted)
+
+  not_wrong : (which : Which) → IsWrong f which → ⊥
+  not_wrong Source w = w
+  not_wrong First w = let n = w.1 in n.2 h.first_word (subst (λ s. IsInput s h.first_word) (held f.told f.first n.0 h.first h.first_told n.1) h.first_form)
+  not_wrong Second w = let n = w.1 in n.2 h.second_word (subst (λ s. IsInput s h.second_word) (held f.told f.second n.0 h.second h.second_told n.1) h.second_form)
+
+  not_unread : (which : Which) → (Rose f.faults_before f.faults_after → ⊥) → IsUnreadable f which → ⊥
+  not_unread Source faultless u = readable f f.source h.source h.source_told faultless u.1
+  not_unread First faultless u = readable f f.first h.first h.first_told faultless u.1
+  not_unread Second faultless u = readable f f.second h.second h.second_told faultless u.1
+
+-- the names of a command are its words
+moved : (c : Call) (P : Files → Type 0) (s f d s' f' d' : List ℕ) → IsClear c.words s f d → IsClear c.words s' f' d' → P (files_of c s f d) → P (files_of c s' f' d')
+moved c P s f d s' f' d' e e' p =
+    let same : clear_words s f d ≡ clear_words s' f' d' = sym e ∙ e' in
+    let one : s ≡ s' = ap (λ ws. get_or ws 1 []) same in
+    let two : f ≡ f' = ap (λ ws. get_or ws 3 []) same in
+    let three : d ≡ d' = ap (λ ws. get_or ws 5 []) same in
+    subst (λ x. P (files_of c s' f' x)) three (subst (λ x. P (files_of c s' x d)) two (subst (λ x. P (files_of c x f d)) one p))
+
+module _ (c : Call) (q : OfCommand c HasForms) where
+  forms : (s f d : List ℕ) → IsClear c.words s f d → HasForms (files_of c s f d)
+  forms s f d e = moved c HasForms q.0 q.1 q.2 s f d q.3 e q.4
+
+  only : (status : ℕ) → Answered c status → IsFaultless c → (status ≡ 0) ⊎ (status ≡ 10)
+  only status (done e d) l = inl e
+  only status (refused e r) l = let o = r.0 in absurd (not_refused (files_of c o.0 o.1 o.2) (forms o.0 o.1 o.2 o.3) o.4)
+  only status (usage e u) l = let w = u.1 in absurd (w.none (q.0, q.1, q.2, q.3))
+  only status (unread e u) l = let o = u.0 in let said = o.4 in absurd (not_unread (files_of c o.0 o.1 o.2) (forms o.0 o.1 o.2 o.3) said.0 l.0 said.1)
+  only status (wrong_input e w) l = let o = w.0 in let wrong = o.4 in absurd (not_wrong (files_of c o.0 o.1 o.2) (forms o.0 o.1 o.2 o.3) wrong.0 wrong.1)
+  only status (without_memory e m) l = inr e
+  only status (unwritten e u) l = absurd (l.1 u.1)
+
+pub completes : (c : Call) (status : ℕ) → Answered c status → Completes c status
+completes c status a q l = only c q status a l

@@ -1,0 +1,80 @@
+//! The whole program, over any outside.
+
+ghost use Rattle.std.specs.Prelude.{◌≡◌, ◌+◌, ◌-◌, ◌^◌, ◌<◌, ℕ, List, [], get_or, length};
+ghost use Rattle.oblivc_main.specs.Words.{texts};
+ghost use Rattle.oblivc_main.specs.Statuses.{Answered, Completes};
+
+use crate::command::clear;
+use crate::saying::{line_for_usage, report, say_line};
+use crate::words::find_fault;
+use oc_outside::{Dialer, Sink, Vault};
+use std::alloc::Global;
+
+/// The status for words that aren't a command.
+const USAGE: u8 = 2;
+
+/// A word of the command line.
+fn word(words: &[String], at: usize) -> &str
+    requires { at < length words.now }
+    ensures { result.now ≡ get_or (texts words.now) at [] }
+{
+    words[at].as_str()
+}
+
+/// Does what the words of a command line ask for, and answers the status to exit with.
+///
+/// `clear FILE --input1 F --input2 F` reads the source of that name and one word of each party, runs the
+/// program in the clear and prints to `out` what it shows. The statuses:
+///
+/// - 0: all was printed, and nothing was written to `err`;
+/// - 1: the source isn't of the first form; `err` says `refused X1 1:1`;
+/// - 2: the words aren't a command; `err` says `usage K`, with the least K such that no command begins
+///   with the words 0 to K, or the number of words;
+/// - 5: a file is absent or reading it failed; `err` says `file NAME`;
+/// - 9: an input file isn't one line of its form; `err` says `input 1`;
+/// - 10: want of memory, which may come at any point; `err` says `memory` where that can be written;
+/// - 11: writing to `out` failed; `err` says `output`.
+///
+/// Where writing to `err` fails the status stays, and where it finds no memory the status is 10. The
+/// contents of the vault stay as they are, and the dialer isn't used.
+pub fn oblivcc<V: Vault, D: Dialer, S: Sink, E: Sink>(
+    alloc: Global,
+    words: &[String],
+    files: &mut V,
+    dialer: &mut D,
+    out: &mut S,
+    err: &mut E,
+) -> u8
+    requires { D.closed dialer.old < 2 ^ 64 - 1 }
+    ensures answered { Answered (record {
+        words = texts words.now;
+        told = V.contents files.old;
+        faults_before = V.faults files.old;
+        faults_after = V.faults files.new;
+        failed = V.failed files.new;
+        out = record { faults_before = S.faults out.old; faults_after = S.faults out.new; before = S.written out.old; after = S.written out.new; };
+        err = record { faults_before = E.faults err.old; faults_after = E.faults err.new; before = E.written err.old; after = E.written err.new; };
+    }) result }
+    ensures completes { Completes (record {
+        words = texts words.now;
+        told = V.contents files.old;
+        faults_before = V.faults files.old;
+        faults_after = V.faults files.new;
+        failed = V.failed files.new;
+        out = record { faults_before = S.faults out.old; faults_after = S.faults out.new; before = S.written out.old; after = S.written out.new; };
+        err = record { faults_before = E.faults err.old; faults_after = E.faults err.new; before = E.written err.old; after = E.written err.new; };
+    }) result }
+    ensures contents { V.contents files.new ≡ V.contents files.old }
+    ensures dialer { dialer.new ≡ dialer.old }
+{
+    if let Some(k) = find_fault(words) {
+        return say_line(err, line_for_usage(alloc, k), USAGE);
+    }
+    let source = word(words, 1);
+    let first = word(words, 3);
+    let second = word(words, 5);
+    match clear(alloc, source, first, second, files, out) {
+        Ok(()) => 0,
+        Err(stop) => report(alloc, stop, source, first, second, err),
+    }
+}
