@@ -10,3 +10,6 @@ pub mod lists;
 
 pub use integers::{BinaryOp, IntKind, ZeroDivisor, convert, public_op, wrap};
 pub use lists::{Boxed, Items, Name, NoMemory};
+
+#[cfg(test)]
+mod tests;
