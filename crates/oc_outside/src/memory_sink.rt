@@ -16,9 +16,9 @@ pub struct MemorySink {
 
 impl Model for MemorySink {
     ghost use Rattle.std.specs.Prelude.{◌<◌};
-    ghost use Rattle.oc_outside.specs.Sinking.{Sinking};
+    ghost use Rattle.oc_outside.specs.MemorySink.{SinkState};
 
-    ghost Value = { Sinking };
+    ghost Value = { SinkState };
 
     ghost view = { λ s. record { written = s.bytes.items; calls = s.plan.calls; failing = s.plan.failing; faults = s.plan.faults; most = s.most } };
 

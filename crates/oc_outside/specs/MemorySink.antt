@@ -1,7 +1,7 @@
 -- A sink in memory, as contracts see it.
 use Rattle.std.specs.Prelude.{ℕ, List}
 
-pub record Sinking : Type 0 where
+pub record SinkState : Type 0 where
   -- the bytes that it took
   pub written : List ℕ
   -- how often it was called, the numbers of the calls that fail, and how many failed
