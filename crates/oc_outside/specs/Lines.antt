@@ -1,7 +1,8 @@
--- A line in memory, and what hands it out, as contracts see them.
+-- A line in memory, and what hands it out.
 use Rattle.std.specs.Prelude.{ℕ, List, []}
 use Rattle.oc_outside.specs.declared.dialers.Asked.{Asked}
 
+-- the line as contracts see it
 pub record LineState : Type 0 where
   pub sent : List ℕ
   pub arrived : List ℕ
@@ -13,6 +14,7 @@ pub record LineState : Type 0 where
 abbrev pub new_line : List ℕ → LineState
 new_line bytes = record { sent = []; arrived = []; coming = bytes; ends = 0 }
 
+-- the dialer as contracts see it
 pub record DialerState : Type 0 where
   -- the bytes that come on each line
   pub coming : List ℕ

@@ -1,6 +1,7 @@
--- A sink in memory, as contracts see it.
+-- A sink in memory.
 use Rattle.std.specs.Prelude.{ℕ, List}
 
+-- the sink as contracts see it
 pub record SinkState : Type 0 where
   -- the bytes that it took
   pub written : List ℕ

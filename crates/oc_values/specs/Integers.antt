@@ -19,6 +19,7 @@ width U32 = 32
 width I64 = 64
 width U64 = 64
 
+-- whether a kind has values below 0
 abbrev pub is_signed : IntKind → Bool
 is_signed KBool = false
 is_signed I8 = true
@@ -39,6 +40,7 @@ residue w (negsuc n) = 2 ^ w - 1 - n % 2 ^ w
 abbrev pub signed_value : ℕ → ℕ → ℤ
 signed_value w n = if nat_lt n (2 ^ (w - 1)) then pos n else (pos n -ℤ pos (2 ^ w))
 
+-- and the same of bits with or without a sign
 abbrev pub value_of_bits : Bool → ℕ → ℕ → ℤ
 value_of_bits true w n = signed_value w n
 value_of_bits false w n = pos n
@@ -62,11 +64,13 @@ IsOfKind k z = IsTrue (is_in_bits (is_signed k) (width k) z)
 abbrev pub Congruent : ℕ → ℤ → ℤ → Type 0
 Congruent w x y = (m : ℤ) × (x ≡ y +ℤ m *ℤ pos (2 ^ w))
 
+-- whether a number is 0
 abbrev pub is_zero : ℤ → Bool
 is_zero (pos zero) = true
 is_zero (pos (suc n)) = false
 is_zero (negsuc n) = false
 
+-- 1 where it holds, and else 0
 abbrev pub number_of : Bool → ℤ
 number_of true = pos 1
 number_of false = pos 0
@@ -89,6 +93,7 @@ quotient_by_zero true (pos n) = negsuc 0
 quotient_by_zero true (negsuc n) = pos 1
 quotient_by_zero false x = negsuc 0
 
+-- a quotient rounds toward zero
 abbrev pub quotient : Bool → ℤ → ℤ → ℤ
 quotient signed x y = if is_zero y then quotient_by_zero signed x else int_div x y
 
@@ -101,6 +106,7 @@ abbrev pub shift_amount : ℕ → ℤ → ℕ
 shift_amount w (pos n) = n % w
 shift_amount w (negsuc n) = w - 1 - n % w
 
+-- an operation on bits, at a kind
 abbrev pub on_bits : IntKind → (ℕ → ℕ → ℕ) → ℤ → ℤ → ℤ
 on_bits k f x y = value_of_bits (is_signed k) (width k) (f (residue (width k) x) (residue (width k) y))
 
@@ -123,6 +129,7 @@ operate GreaterEq k x y = number_of (not (int_lt x y))
 operate Equal k x y = number_of (is_zero (x -ℤ y))
 operate NotEqual k x y = number_of (not (is_zero (x -ℤ y)))
 
+-- the operators that divide
 abbrev pub divides : BinaryOp → Bool
 divides Div = true
 divides Rem = true
@@ -132,10 +139,11 @@ divides _ = false
 abbrev pub operate_public : BinaryOp → IntKind → ℤ → ℤ → Result ℤ ZeroDivisor
 operate_public op k x y = if divides op && is_zero y then Err record {} else Ok (operate op k x y)
 
--- the operators with one operand: minus, and every bit turned
+-- minus
 abbrev pub negate : IntKind → ℤ → ℤ
 negate k x = wrap k (neg_ℤ x)
 
+-- every bit turned
 abbrev pub flip : IntKind → ℤ → ℤ
 flip k x = wrap k (negsuc 0 -ℤ x)
 
@@ -155,5 +163,6 @@ is_right_operand Shl k y = is_in_bits true 64 y || is_in_bits false 64 y
 is_right_operand Shr k y = is_in_bits true 64 y || is_in_bits false 64 y
 is_right_operand _ k y = is_in_bits (is_signed k) (width k) y
 
+-- that is, an operand that the operator takes
 abbrev pub IsRightOperand : BinaryOp → IntKind → ℤ → Type 0
 IsRightOperand op k y = IsTrue (is_right_operand op k y)
