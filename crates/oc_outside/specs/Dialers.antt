@@ -9,16 +9,19 @@ IfLine (Line line) fact = fact line
 IfLine Failed fact = ⊤
 IfLine NoMemory fact = ⊤
 
+-- a fact where the dialer failed
 abbrev pub OnDialFailed : {L : Type 0} → DialAnswer L → Type 0 → Type 0
 OnDialFailed (Line line) fact = ⊤
 OnDialFailed Failed fact = fact
 OnDialFailed NoMemory fact = ⊤
 
+-- a fact where the dialer found no memory
 abbrev pub OnDialNoMemory : {L : Type 0} → DialAnswer L → Type 0 → Type 0
 OnDialNoMemory (Line line) fact = ⊤
 OnDialNoMemory Failed fact = ⊤
 OnDialNoMemory NoMemory fact = fact
 
+-- a fact of a line and of a fault
 abbrev pub UnlessDialNoMemory : {L : Type 0} → DialAnswer L → Type 0 → Type 0
 UnlessDialNoMemory (Line line) fact = fact
 UnlessDialNoMemory Failed fact = fact

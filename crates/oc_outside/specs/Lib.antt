@@ -5,6 +5,6 @@ pub mod Sinks
 pub mod Links
 pub mod Dialers
 pub mod Files
-pub mod Sinking
-pub mod Keeping
+pub mod MemorySink
+pub mod MemoryVault
 pub mod Lines

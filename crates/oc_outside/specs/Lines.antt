@@ -1,8 +1,9 @@
--- A line in memory, and what hands it out, as contracts see them.
+-- A line in memory, and what hands it out.
 use Rattle.std.specs.Prelude.{ℕ, List, []}
 use Rattle.oc_outside.specs.declared.dialers.Asked.{Asked}
 
-pub record Line : Type 0 where
+-- the line as contracts see it
+pub record LineState : Type 0 where
   pub sent : List ℕ
   pub arrived : List ℕ
   pub coming : List ℕ
@@ -10,13 +11,14 @@ pub record Line : Type 0 where
   pub ends : ℕ
 
 -- a line that wasn't used yet, and on which these bytes come
-abbrev pub new_line : List ℕ → Line
+abbrev pub new_line : List ℕ → LineState
 new_line bytes = record { sent = []; arrived = []; coming = bytes; ends = 0 }
 
-pub record Dialing : Type 0 where
+-- the dialer as contracts see it
+pub record DialerState : Type 0 where
   -- the bytes that come on each line
   pub coming : List ℕ
   pub asked : List Asked
   -- how many lines were closed, and the last of them
   pub closed : ℕ
-  pub last : Line
+  pub last : LineState

@@ -9,16 +9,19 @@ IfGot (Got n) fact = fact n
 IfGot Ended fact = ⊤
 IfGot Failed fact = ⊤
 
+-- a fact where the line ended
 abbrev pub OnEnded : RecvAnswer → Type 0 → Type 0
 OnEnded (Got n) fact = ⊤
 OnEnded Ended fact = fact
 OnEnded Failed fact = ⊤
 
+-- a fact where the line failed
 abbrev pub OnRecvFailed : RecvAnswer → Type 0 → Type 0
 OnRecvFailed (Got n) fact = ⊤
 OnRecvFailed Ended fact = ⊤
 OnRecvFailed Failed fact = fact
 
+-- a fact where nothing was received
 abbrev pub UnlessGot : RecvAnswer → Type 0 → Type 0
 UnlessGot (Got n) fact = ⊤
 UnlessGot Ended fact = fact

@@ -11,26 +11,31 @@ IfTook (Took n) fact = fact n
 IfTook NotTaken fact = ⊤
 IfTook PutNoMemory fact = ⊤
 
+-- a fact where the sink failed
 abbrev pub OnPutFailed : PutAnswer → Type 0 → Type 0
 OnPutFailed (Took n) fact = ⊤
 OnPutFailed NotTaken fact = fact
 OnPutFailed PutNoMemory fact = ⊤
 
+-- a fact of every refusal
 abbrev pub UnlessTook : PutAnswer → Type 0 → Type 0
 UnlessTook (Took n) fact = ⊤
 UnlessTook NotTaken fact = fact
 UnlessTook PutNoMemory fact = fact
 
+-- a fact where all bytes were taken
 abbrev pub OnDone : PutEnd → Type 0 → Type 0
 OnDone Done fact = fact
 OnDone NotDone fact = ⊤
 OnDone EndNoMemory fact = ⊤
 
+-- a fact where the whole write ended with a fault
 abbrev pub OnEndFailed : PutEnd → Type 0 → Type 0
 OnEndFailed Done fact = ⊤
 OnEndFailed NotDone fact = fact
 OnEndFailed EndNoMemory fact = ⊤
 
+-- a fact of every whole write that ended early
 abbrev pub UnlessDone : PutEnd → Type 0 → Type 0
 UnlessDone Done fact = ⊤
 UnlessDone NotDone fact = fact

@@ -11,10 +11,12 @@ appended more told = option_map (λ list. list ++ more) told
 abbrev pub preceded : {A : Type 0} → List A → Option (List A) → Option (List A)
 preceded front told = option_map (λ list. front ++ list) told
 
+-- to append nothing changes nothing
 pub appended-nil : {A : Type 0} (told : Option (List A)) → appended [] told ≡ told
 appended-nil (Some list) = ap Some (append-nil list)
 appended-nil None = refl
 
+-- two pieces, one after the other, are one
 pub appended-appended : {A : Type 0} (first second : List A) (told : Option (List A)) → appended second (appended first told) ≡ appended (first ++ second) told
 appended-appended first second (Some list) = ap Some (append_assoc list first second)
 appended-appended first second None = refl

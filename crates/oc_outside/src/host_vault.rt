@@ -7,7 +7,7 @@ use oc_values::Items;
 use std::alloc::Global;
 use std::fs::File;
 use std::io;
-use std::io::{ErrorKind, Read, Write};
+use std::io::{ErrorKind, Read};
 use std::marker::Model;
 use std::rt::Files;
 
@@ -47,7 +47,7 @@ fn read_front<F: Read + Drop>(alloc: Global, reader: F, limit: u64) -> io::Resul
     let mut bytes = Vec::new(alloc);
     let mut front = reader.take(limit);
     front.read_to_end(&mut bytes)?;
-    // No effect at run time: what a reader gives past its limit is not known to be nothing.
+    // This changes nothing: no clause of `take` says that it gives at most its limit.
     bytes.truncate(limit as usize);
     Ok(Items::from_vec(bytes))
 }

@@ -16,9 +16,9 @@ pub struct MemorySink {
 
 impl Model for MemorySink {
     ghost use Rattle.std.specs.Prelude.{◌<◌};
-    ghost use Rattle.oc_outside.specs.Sinking.{Sinking};
+    ghost use Rattle.oc_outside.specs.MemorySink.{SinkState};
 
-    ghost Value = { Sinking };
+    ghost Value = { SinkState };
 
     ghost view = { λ s. record { written = s.bytes.items; calls = s.plan.calls; failing = s.plan.failing; faults = s.plan.faults; most = s.most } };
 
@@ -50,7 +50,7 @@ impl MemorySink {
 }
 
 impl Sink for MemorySink {
-    ghost use Rattle.std.specs.Prelude.{◌≡◌, ◌↔◌, ◌≤◌, ◌<◌, ◌^◌, ◌++◌, Contains, Some, length, take, min};
+    ghost use Rattle.std.specs.Prelude.{◌≡◌, ◌↔◌, ◌+◌, ◌-◌, ◌^◌, ◌<◌, ◌≤◌, Contains, Some, length, take, min};
     ghost use Rattle.oc_outside.specs.Counts.{Rose};
     ghost use Rattle.oc_outside.specs.Told.{appended};
     ghost use Rattle.oc_outside.specs.Sinks.{IfTook, OnPutFailed, UnlessTook};
@@ -64,10 +64,13 @@ impl Sink for MemorySink {
         ensures below_end { self.new.faults < 2 ^ 64 }
         ensures failed { OnPutFailed result (Rose self.old.faults self.new.faults) }
         ensures planned { (result ≡ PutAnswer.Failed) ↔ Contains self.old.failing self.old.calls }
+        ensures calls { self.new.calls ≡ min (self.old.calls + 1) (2 ^ 64 - 1) }
+        ensures failing { self.new.failing ≡ self.old.failing }
 
         ensures within { IfTook result (λ n. n ≤ length piece.now) }
         ensures progress { IfTook result (λ n. 0 < length piece.now → 0 < n) }
-        ensures most { IfTook result (λ n. n ≡ min (length piece.now) self.old.most) }
+        ensures at_most { IfTook result (λ n. n ≡ min (length piece.now) self.old.most) }
+        ensures most { self.new.most ≡ self.old.most }
         ensures took { IfTook result (λ n. Some self.new.written ≡ appended (take n piece.now) (Some self.old.written)) }
         ensures refused { UnlessTook result (Some self.new.written ≡ Some self.old.written) }
     {

@@ -17,7 +17,7 @@ pub struct MemoryVault {
 
 impl MemoryVault {
     ghost use Rattle.std.specs.Prelude.{◌≡◌, ◌≢◌, ℕ, List, Some, None, IfSome, IfNone, OnOk, OnErr};
-    ghost use Rattle.oc_outside.specs.Keeping.{contents_of, calls_of, failing_of};
+    ghost use Rattle.oc_outside.specs.MemoryVault.{contents_of, calls_of, failing_of};
 
     /// A vault that holds nothing, and whose calls with the numbers `failing`, counted from 0, fail.
     pub fn new(alloc: Global, failing: Items<u64>) -> MemoryVault
@@ -56,7 +56,7 @@ impl Vault for MemoryVault {
     ghost use Rattle.std.specs.Prelude.{◌≡◌, ◌≢◌, ℕ, ◌+◌, ◌-◌, ◌^◌, ◌<◌, ◌≤◌, ◌↔◌, List, length, take, min, Contains, Some, None, IfSome, IsSomeAnd};
     ghost use Rattle.oc_outside.specs.Counts.{Rose};
     ghost use Rattle.oc_outside.specs.Vaults.{IfBytes, OnAbsent, OnReadFailed, UnlessReadFailed, OnWritten, OnWriteFailed, UnlessWriteFailed, OnWriteNoMemory};
-    ghost use Rattle.oc_outside.specs.Keeping.{contents_of, calls_of, failing_of, faults_of, failed_of};
+    ghost use Rattle.oc_outside.specs.MemoryVault.{contents_of, calls_of, failing_of, faults_of, failed_of};
 
     ghost faults = { faults_of };
 

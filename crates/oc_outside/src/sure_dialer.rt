@@ -21,9 +21,9 @@ pub struct SureDialer {
 }
 
 impl Model for SureDialer {
-    ghost use Rattle.oc_outside.specs.Lines.{Dialing};
+    ghost use Rattle.oc_outside.specs.Lines.{DialerState};
 
-    ghost Value = { Dialing };
+    ghost Value = { DialerState };
 
     ghost view = { λ d. record { coming = d.coming; asked = d.asked; closed = d.closed; last = d.last } };
 }

@@ -20,9 +20,9 @@ pub struct SureLink {
 
 impl Model for SureLink {
     ghost use Rattle.std.specs.Prelude.{◌≤◌, take, drop, length};
-    ghost use Rattle.oc_outside.specs.Lines.{Line};
+    ghost use Rattle.oc_outside.specs.Lines.{LineState};
 
-    ghost Value = { Line };
+    ghost Value = { LineState };
 
     ghost view = { λ l. record { sent = l.sent.items; arrived = take l.at l.bytes; coming = drop l.at l.bytes; ends = l.ends } };
 

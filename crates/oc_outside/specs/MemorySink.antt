@@ -1,7 +1,8 @@
--- A sink in memory, as contracts see it.
+-- A sink in memory.
 use Rattle.std.specs.Prelude.{ℕ, List}
 
-pub record Sinking : Type 0 where
+-- the sink as contracts see it
+pub record SinkState : Type 0 where
   -- the bytes that it took
   pub written : List ℕ
   -- how often it was called, the numbers of the calls that fail, and how many failed
