@@ -17,6 +17,10 @@ is_clear ws c = subst (λ xs. IsClear xs (get_or xs 1 []) (get_or xs 3 []) (get_
 pub six_words : (ws : List (List ℕ)) → IsCommand ws → length ws ≡ 6
 six_words ws c = ap length c.3
 
+pub status_only : (e : Output) (line : List ℕ) (status result : ℕ) → Said e line status result → (result ≡ status) ⊎ (result ≡ 10)
+status_only e line status result (inl said) = inl said.0
+status_only e line status result (inr none) = inr none
+
 -- a call that said its usage line
 pub by_usage : (c : Call) (k status : ℕ) → Usage c.words k → c.out.after ≡ c.out.before → Said c.err (usage_line k) 2 status → Answered c status
 by_usage c k status u same (inl said) = usage said.0 (k, u, same, said.1)

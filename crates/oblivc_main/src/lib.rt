@@ -1,9 +1,10 @@
 //! What the program `oblivcc` does, over any files, streams and lines to the other party.
 //!
 //! `oblivcc` is the top call: it reads the words of a command line, does what they ask for, and answers
-//! the status to exit with. `input_word` reads an input file, and `find_fault` the words.
+//! the status to exit with. `serve_process` reads those words from the process first.
 #![tactic(auto)]
 
+mod arguments;
 mod command;
 mod inputs;
 mod printing;
@@ -13,5 +14,5 @@ mod saying;
 mod stop;
 mod words;
 
+pub use arguments::serve_process;
 pub use program::oblivcc;
-pub use words::find_fault;

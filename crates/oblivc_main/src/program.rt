@@ -1,6 +1,6 @@
 //! The whole program, over any outside.
 
-ghost use Rattle.std.specs.Prelude.{◌≡◌, ◌+◌, ◌-◌, ◌^◌, ◌<◌, ℕ, List, [], get_or, length};
+ghost use Rattle.std.specs.Prelude.{◌≡◌, ◌+◌, ◌-◌, ◌^◌, ◌<◌, ℕ, List, [], get_or, length, ◌⊎◌};
 ghost use Rattle.oblivc_main.specs.Words.{texts};
 ghost use Rattle.oblivc_main.specs.Statuses.{Answered, Completes};
 
@@ -19,6 +19,18 @@ fn word(words: &[String], at: usize) -> &str
     ensures { result.now ≡ get_or (texts words.now) at [] }
 {
     words[at].as_str()
+}
+
+/// Says that words aren't a command, where the word after them isn't text: no command begins with that one,
+/// if with those before it.
+pub fn refuse_words<E: Sink>(alloc: Global, words: &[String], err: &mut E) -> u8
+    ensures { (result ≡ 2) ⊎ (result ≡ 10) }
+{
+    let k = match find_fault(words) {
+        Some(k) => k,
+        None => words.len(),
+    };
+    say_line(err, line_for_usage(alloc, k), USAGE)
 }
 
 /// Does what the words of a command line ask for, and answers the status to exit with.
