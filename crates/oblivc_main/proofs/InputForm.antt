@@ -118,31 +118,37 @@ ended_by (x ∷ xs) h =
 -- the text is its parts
 end_is : (bytes : List ℕ) → (e : Bool) × (bytes ≡ line_of bytes ++ line_end e)
 end_is bytes = elim (has_end bytes) as (λ t. has_end bytes ≡ t → (e : Bool) × (bytes ≡ (if t then take (length bytes - 1) bytes else bytes) ++ line_end e)) [
-      true ↦ λ h. (true, ended_by bytes h)
-    | false ↦ λ h. (false, sym (append-nil bytes))
-    ] refl
+  | true ↦ λ h. (true, ended_by bytes h)
+  | false ↦ λ h. (false, sym (append-nil bytes))
+] refl
 
 sign_is : (line : List ℕ) → line ≡ sign_of (is_minus line) ++ digits_of line
 sign_is [] = refl
 sign_is (b ∷ bs) = elim (nat_eq b 45) as (λ t. nat_eq b 45 ≡ t → (b ∷ bs) ≡ sign_of t ++ (if t then bs else (b ∷ bs))) [
-      true ↦ λ e. let same : b ≡ 45 = grind (arith, nat_tests) in ap (λ x. x ∷ bs) same
-    | false ↦ λ e. refl
-    ] refl
+  | true ↦ λ e. let same : b ≡ 45 = grind (arith, nat_tests) in ap (λ x. x ∷ bs) same
+  | false ↦ λ e. refl
+] refl
 
 pub input_of : (bytes : List ℕ) (word : ℤ) → Parts bytes word → IsInput bytes word
 input_of bytes word p =
     let e = end_is bytes in
     record {
-      minus = is_minus (line_of bytes); digits = digits_of (line_of bytes); ended = e.0;
+      minus = is_minus (line_of bytes);
+      digits = digits_of (line_of bytes);
+      ended = e.0;
       text = e.1 ∙ ap (λ line. line ++ line_end e.0) (sign_is (line_of bytes));
-      decimal = p.decimal; some = p.some; most = p.most; value = p.value; range = p.range;
+      decimal = p.decimal;
+      some = p.some;
+      most = p.most;
+      value = p.value;
+      range = p.range;
     }
 
 digits_so : (ds : List ℕ) (v : ℕ) → Some v ≡ decimal_of ds → (list_all is_digit ds ≡ true) × (v ≡ decimal_value ds)
 digits_so ds v = elim (list_all is_digit ds) as (λ t. Some v ≡ (if t then Some (decimal_value ds) else None) → (t ≡ true) × (v ≡ decimal_value ds)) [
-      true ↦ λ e. (refl, cc)
-    | false ↦ λ e. cc
-    ]
+  | true ↦ λ e. (refl, cc)
+  | false ↦ λ e. cc
+]
 
 module _ (bytes : List ℕ) (m : Bool) (v : ℕ) (line ds : List ℕ) (line_so : line ≡ line_of bytes) (ds_so : ds ≡ digits_of line) (m_so : m ≡ is_minus line) (v_so : Some v ≡ decimal_of ds) (some : 1 ≤ length ds) (most : length ds ≤ 19) where
   parts_so : (z : ℤ) → z ≡ signed m v → IsTrue (is_in_bits true 64 z) → Parts bytes z
@@ -150,7 +156,9 @@ module _ (bytes : List ℕ) (m : Bool) (v : ℕ) (line ds : List ℕ) (line_so :
       let d = ds_so ∙ ap digits_of line_so in
       let k = digits_so ds v v_so in
       record {
-        some = subst (λ xs. 1 ≤ length xs) d some; most = subst (λ xs. length xs ≤ 19) d most; decimal = ap (list_all is_digit) (sym d) ∙ k.0;
+        some = subst (λ xs. 1 ≤ length xs) d some;
+        most = subst (λ xs. length xs ≤ 19) d most;
+        decimal = ap (list_all is_digit) (sym d) ∙ k.0;
         value = e ∙ ap (λ b. signed b v) (m_so ∙ ap is_minus line_so) ∙ ap (signed (is_minus (line_of bytes))) (k.1 ∙ ap decimal_value d);
         range = h;
       }
@@ -163,12 +171,12 @@ module _ (bytes : List ℕ) (m : Bool) (v : ℕ) (line ds : List ℕ) (line_so :
 
   pub word_read : (r : Option ℤ) → r ≡ fitting (signed m v) → IfSome r (λ w. IsInput bytes w)
   word_read r e = subst (λ o. IfSome o (λ w. IsInput bytes w)) (sym e) (elim (is_in_bits true 64 (signed m v)) as (λ t. is_in_bits true 64 (signed m v) ≡ t → IfSome (if t then Some (signed m v) else None) (λ w. IsInput bytes w)) [
-        true ↦ λ h. input_of bytes (signed m v) (parts_so (signed m v) refl h)
-      | false ↦ λ h. tt
-      ] refl)
+    | true ↦ λ h. input_of bytes (signed m v) (parts_so (signed m v) refl h)
+    | false ↦ λ h. tt
+  ] refl)
 
   pub word_lost : (r : Option ℤ) → r ≡ fitting (signed m v) → IfNone r ((w : ℤ) → IsInput bytes w → ⊥)
   word_lost r e = subst (λ o. IfNone o ((w : ℤ) → IsInput bytes w → ⊥)) (sym e) (elim (is_in_bits true 64 (signed m v)) as (λ t. is_in_bits true 64 (signed m v) ≡ t → IfNone (if t then Some (signed m v) else None) ((w : ℤ) → IsInput bytes w → ⊥)) [
-        true ↦ λ h. tt
-      | false ↦ λ h w i. false≢true (sym h ∙ ap (is_in_bits true 64) (sym (value_so w i)) ∙ i.range)
-      ] refl)
+    | true ↦ λ h. tt
+    | false ↦ λ h w i. false≢true (sym h ∙ ap (is_in_bits true 64) (sym (value_so w i)) ∙ i.range)
+  ] refl)

@@ -52,11 +52,11 @@ module _ (told : Told) (before mid after : ℕ) (failed : Option (List ℕ)) (so
   ran told' told'' t x y items outcome same also a i j run =
       let clear : Clear t (setup_of x y) items outcome = subst (λ v. Clear t (setup_of x v) items outcome) (to_z-of_z w64 y (input_fits j.0 y j.2)) (subst (λ v. Clear t (setup_of v (to_z w64 (of_z w64 y))) items outcome) (to_z-of_z w64 x (input_fits i.0 x i.2)) run) in
       record {
-    tree = t;
-    first_word = x;
-    second_word = y;
-    accepted = a;
-    first_input = subst (λ f. HasWord f first x) same i;
-    second_input = subst (λ f. HasWord f second y) also j;
-    meaning = subst (λ o. Clear t (setup_of x y) items o) (ends_done a.0 t x y [] 1048576 1000000000 items outcome a.2 (omega arith) (omega arith) clear) clear;
-  }
+        tree = t;
+        first_word = x;
+        second_word = y;
+        accepted = a;
+        first_input = subst (λ f. HasWord f first x) same i;
+        second_input = subst (λ f. HasWord f second y) also j;
+        meaning = subst (λ o. Clear t (setup_of x y) items o) (ends_done a.0 t x y [] 1048576 1000000000 items outcome a.2 (omega arith) (omega arith) clear) clear;
+      }

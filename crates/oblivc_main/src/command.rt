@@ -43,15 +43,21 @@ fn run_words(alloc: Global, typed: &Typed, first: i64, second: i64) -> Result<Cl
 }
 
 /// Reads the source and both inputs, in this order, and runs the program.
-fn run_files<V: Vault>(alloc: Global, file: &str, first: &str, second: &str, files: &mut V) -> Result<ClearRun, Stop>
+fn run_files<V: Vault>(
+    alloc: Global,
+    file: &str,
+    first: &str,
+    second: &str,
+    files: &mut V,
+) -> Result<ClearRun, Stop>
     ensures end { Runs (record {
-        told = V.contents files.old;
-        faults_before = V.faults files.old;
-        faults_after = V.faults files.new;
-        failed = V.failed files.new;
-        source = file.now;
-        first = first.now;
-        second = second.now;
+      told = V.contents files.old;
+      faults_before = V.faults files.old;
+      faults_after = V.faults files.new;
+      failed = V.failed files.new;
+      source = file.now;
+      first = first.now;
+      second = second.now;
     }) result }
     ensures never_falls { V.faults files.old ≤ V.faults files.new }
     ensures unchanged { V.contents files.new ≡ V.contents files.old }
@@ -76,18 +82,18 @@ pub fn clear<V: Vault, S: Sink>(
     out: &mut S,
 ) -> Result<(), Stop>
     ensures end { Ends (record {
-        told = V.contents files.old;
-        faults_before = V.faults files.old;
-        faults_after = V.faults files.new;
-        failed = V.failed files.new;
-        source = file.now;
-        first = first.now;
-        second = second.now;
+      told = V.contents files.old;
+      faults_before = V.faults files.old;
+      faults_after = V.faults files.new;
+      failed = V.failed files.new;
+      source = file.now;
+      first = first.now;
+      second = second.now;
     }) (record {
-        faults_before = S.faults out.old;
-        faults_after = S.faults out.new;
-        before = S.written out.old;
-        after = S.written out.new;
+      faults_before = S.faults out.old;
+      faults_after = S.faults out.new;
+      before = S.written out.old;
+      after = S.written out.new;
     }) result }
     ensures never_falls { V.faults files.old ≤ V.faults files.new }
     ensures out_never_falls { S.faults out.old ≤ S.faults out.new }

@@ -59,22 +59,22 @@ pub fn oblivcc<V: Vault, D: Dialer, S: Sink, E: Sink>(
 ) -> u8
     requires { D.closed dialer.old < 2 ^ 64 - 1 }
     ensures answered { Answered (record {
-        words = texts words.now;
-        told = V.contents files.old;
-        faults_before = V.faults files.old;
-        faults_after = V.faults files.new;
-        failed = V.failed files.new;
-        out = record { faults_before = S.faults out.old; faults_after = S.faults out.new; before = S.written out.old; after = S.written out.new; };
-        err = record { faults_before = E.faults err.old; faults_after = E.faults err.new; before = E.written err.old; after = E.written err.new; };
+      words = texts words.now;
+      told = V.contents files.old;
+      faults_before = V.faults files.old;
+      faults_after = V.faults files.new;
+      failed = V.failed files.new;
+      out = record { faults_before = S.faults out.old; faults_after = S.faults out.new; before = S.written out.old; after = S.written out.new };
+      err = record { faults_before = E.faults err.old; faults_after = E.faults err.new; before = E.written err.old; after = E.written err.new };
     }) result }
     ensures completes { Completes (record {
-        words = texts words.now;
-        told = V.contents files.old;
-        faults_before = V.faults files.old;
-        faults_after = V.faults files.new;
-        failed = V.failed files.new;
-        out = record { faults_before = S.faults out.old; faults_after = S.faults out.new; before = S.written out.old; after = S.written out.new; };
-        err = record { faults_before = E.faults err.old; faults_after = E.faults err.new; before = E.written err.old; after = E.written err.new; };
+      words = texts words.now;
+      told = V.contents files.old;
+      faults_before = V.faults files.old;
+      faults_after = V.faults files.new;
+      failed = V.failed files.new;
+      out = record { faults_before = S.faults out.old; faults_after = S.faults out.new; before = S.written out.old; after = S.written out.new };
+      err = record { faults_before = E.faults err.old; faults_after = E.faults err.new; before = E.written err.old; after = E.written err.new };
     }) result }
     ensures contents { V.contents files.new ≡ V.contents files.old }
     ensures dialer { dialer.new ≡ dialer.old }

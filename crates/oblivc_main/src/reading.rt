@@ -34,7 +34,12 @@ pub fn read_source<V: Vault>(alloc: Global, files: &mut V, file: &str) -> Result
 }
 
 /// The word of an input file, or why there is none.
-pub fn read_word<V: Vault>(alloc: Global, files: &mut V, name: &str, which: Which) -> Result<i64, Stop>
+pub fn read_word<V: Vault>(
+    alloc: Global,
+    files: &mut V,
+    name: &str,
+    which: Which,
+) -> Result<i64, Stop>
     ensures end { ReadWord (V.contents files.old) (V.faults files.old) (V.faults files.new) (V.failed files.new) name.now which result }
     ensures never_falls { V.faults files.old ≤ V.faults files.new }
     ensures unchanged { V.contents files.new ≡ V.contents files.old }

@@ -29,10 +29,10 @@ pub fn line_for_file(alloc: Global, name: &str) -> Result<String, AllocError>
 /// memory the status is another.
 pub fn say<E: Sink>(err: &mut E, line: &str, status: u8) -> u8
     ensures { Said (record {
-        faults_before = E.faults err.old;
-        faults_after = E.faults err.new;
-        before = E.written err.old;
-        after = E.written err.new;
+      faults_before = E.faults err.old;
+      faults_after = E.faults err.new;
+      before = E.written err.old;
+      after = E.written err.new;
     }) line.now status result }
 {
     match write_all(err, line.as_bytes()) {
@@ -44,10 +44,10 @@ pub fn say<E: Sink>(err: &mut E, line: &str, status: u8) -> u8
 /// Writes a line that may have found no memory.
 pub fn say_line<E: Sink>(err: &mut E, line: Result<String, AllocError>, status: u8) -> u8
     ensures { (wanted : List ℕ) → IfOk line (λ text. string_bytes text ≡ wanted) → Said (record {
-        faults_before = E.faults err.old;
-        faults_after = E.faults err.new;
-        before = E.written err.old;
-        after = E.written err.new;
+      faults_before = E.faults err.old;
+      faults_after = E.faults err.new;
+      before = E.written err.old;
+      after = E.written err.new;
     }) wanted status result }
 {
     match line {
@@ -57,12 +57,19 @@ pub fn say_line<E: Sink>(err: &mut E, line: Result<String, AllocError>, status: 
 }
 
 /// Says why the command ended, and answers its status.
-pub fn report<E: Sink>(alloc: Global, stop: Stop, source: &str, first: &str, second: &str, err: &mut E) -> u8
+pub fn report<E: Sink>(
+    alloc: Global,
+    stop: Stop,
+    source: &str,
+    first: &str,
+    second: &str,
+    err: &mut E,
+) -> u8
     ensures { Said (record {
-        faults_before = E.faults err.old;
-        faults_after = E.faults err.new;
-        before = E.written err.old;
-        after = E.written err.new;
+      faults_before = E.faults err.old;
+      faults_after = E.faults err.new;
+      before = E.written err.old;
+      after = E.written err.new;
     }) (line_of source.now first.now second.now stop) (status_of stop) result }
 {
     match stop {
