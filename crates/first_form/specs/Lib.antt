@@ -1,4 +1,7 @@
 pub mod Items
 pub mod Layout
+pub mod Words
+pub mod Reading
+pub mod Scope
 pub mod Trees
 pub mod First

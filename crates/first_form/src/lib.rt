@@ -3,3 +3,8 @@
 //! `specs/First.antt` says which typed tree a source text of this form has, as a relation on the whole
 //! text.
 #![tactic(auto)]
+
+mod item;
+mod name;
+mod scope;
+mod word;
