@@ -1,3 +1,6 @@
 pub mod Sample
 pub mod Cutting
 pub mod Skipping
+pub mod Spots
+pub mod Taking
+pub mod Bodies

@@ -55,7 +55,7 @@ module _ (es : List (Bor (List ℕ))) (i : ℕ) (ws : List Word) (total : Option
 abbrev taken : Word → List Word → BinaryOp → Option (Summand × List Word)
 taken n ws op = Some (record { op = op; name = n.text.now }, ws)
 
-abbrev chosen : Word → Word → List Word → Option BinaryOp → List Summand × List Word
+abbrev pub chosen : Word → Word → List Word → Option BinaryOp → List Summand × List Word
 chosen o n ws None = ([], o ∷ n ∷ ws)
 chosen o n ws (Some op) = with_first (record { op = op; name = n.text.now }) (summands_at ws)
 

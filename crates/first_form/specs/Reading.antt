@@ -137,3 +137,30 @@ unfoldable pub item_at : List Word → Option (Item × List Word)
 item_at ws = do
   first ← next ws
   item_after first.0 first.1
+
+-- ---- a program
+
+-- only the closing brace is left
+unfoldable pub is_end : List Word → Bool
+is_end [] = false
+is_end (w ∷ []) = same_bytes w.text.now (codes "}")
+is_end (w ∷ v ∷ ws) = false
+
+-- an item that may stand after these names
+unfoldable pub fitting_at : List Named → List Word → Option (Item × List Word)
+fitting_at ds ws = do
+  read ← item_at ws
+  if is_item ds read.0 then Some read else None
+
+-- the items that come next, up to the end, at most so many
+unfoldable pub body_at : ℕ → List Named → List Word → Option (List Item)
+body_at zero ds ws = if is_end ws then Some [] else None
+body_at (suc n) ds ws =
+    if is_end ws then Some []
+    else (fitting_at ds ws >>= λ first. body_at n (ds ++ declared_by first.0) first.1 >>= λ others. Some (first.0 ∷ others))
+
+-- the items of the words of a program
+unfoldable pub program_at : List Word → Option (List Item)
+program_at ws = do
+  ws ← skip opening_words ws
+  body_at 100 [] ws

@@ -1,6 +1,6 @@
 //! The names that are declared, and what an item may use of them.
 
-ghost use Rattle.std.specs.Prelude.{◌≡◌, ◌≤◌, ◌++◌, Some, None, length, map, MatchOption, OnOk};
+ghost use Rattle.std.specs.Prelude.{◌≡◌, ◌++◌, map, OnOk};
 ghost use Rattle.std.specs.List.{list_all};
 ghost use Rattle.first_form.specs.Items.{mark_of, is_known, is_new, is_summand, is_item, declared_by};
 ghost use Rattle.first_form.specs.Trees.{slot_of};
@@ -21,26 +21,36 @@ pub struct DeclaredName<'s> {
     pub hidden: bool,
 }
 
-/// The slot of a name, and whether it is hidden.
-pub fn find(names: &[DeclaredName<'_>], name: &[u8]) -> Option<(u64, bool)>
-    ensures { MatchOption result (mark_of name.now (map named names.now) ≡ None) (λ f. (mark_of name.now (map named names.now) ≡ Some f.1) × (slot_of name.now (map named names.now) ≡ f.0)) }
+/// Whether a name is hidden, where it is declared.
+fn mark_of(names: &[DeclaredName<'_>], name: &[u8]) -> Option<bool>
+    ensures { result ≡ mark_of name.now (map named names.now) }
 {
-    let mut slot = 0;
     for declared in names {
         if same(name, declared.name) {
-            return Some((slot, declared.hidden));
+            return Some(declared.hidden);
         }
-        slot += 1;
     }
     None
+}
+
+/// The slot of a name: how many names were declared before it.
+pub fn slot_of(names: &[DeclaredName<'_>], name: &[u8]) -> u64
+    ensures { result ≡ slot_of name.now (map named names.now) }
+{
+    for (slot, declared) in names.iter().enumerate() {
+        if same(name, declared.name) {
+            return slot as u64;
+        }
+    }
+    names.len() as u64
 }
 
 /// Whether the name is declared, as hidden or as public.
 fn is_known(names: &[DeclaredName<'_>], hidden: bool, name: &[u8]) -> bool
     ensures { result ≡ is_known (map named names.now) hidden name.now }
 {
-    match find(names, name) {
-        Some((_slot, mark)) => mark == hidden,
+    match mark_of(names, name) {
+        Some(mark) => mark == hidden,
         None => false,
     }
 }
@@ -49,7 +59,7 @@ fn is_known(names: &[DeclaredName<'_>], hidden: bool, name: &[u8]) -> bool
 fn is_new(names: &[DeclaredName<'_>], name: &[u8]) -> bool
     ensures { result ≡ is_new (map named names.now) name.now }
 {
-    is_name(name) && find(names, name).is_none()
+    is_name(name) && mark_of(names, name).is_none()
 }
 
 /// Whether a sum may go on so.
