@@ -4,3 +4,4 @@ pub mod Skipping
 pub mod Spots
 pub mod Taking
 pub mod Bodies
+pub mod Typings

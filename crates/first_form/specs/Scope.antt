@@ -1,8 +1,10 @@
 -- The names that are declared, and the spots of words, as the reader keeps them.
-use Rattle.std.specs.Prelude.{◌≡◌, List, [], ◌∷◌, ◌++◌, map, Some}
+use Rattle.std.specs.Prelude.{◌≡◌, List, [], ◌∷◌, ◌++◌, map, Some, false, codes}
 use Rattle.oc_tree.specs.declared.spot.Spot.{Spot}
 use Rattle.first_form.specs.declared.word.Word.{Word}
 use Rattle.first_form.specs.declared.scope.DeclaredName.{DeclaredName}
+use Rattle.oc_tree.specs.declared.types.CType.{Nothing}
+use Rattle.oc_tree.specs.declared.typed.TypedFunction.{TypedFunction}
 use Rattle.oc_tree.specs.declared.types.SlotType.{SlotType}
 use Rattle.oc_tree.specs.declared.typed.Stmt.{Stmt}
 use Rattle.oc_tree.specs.declared.program.Typed.{Typed}
@@ -29,6 +31,9 @@ pub record IsBody (ws : List Word) (slots : List SlotType) (body : List Stmt) : 
   pub read : body_at 100 [] ws ≡ Some items
   pub variables : slots ≡ map slot_type (all_declared items)
   pub trees : body ≡ statements [] (spots_of ws) items
+
+abbrev pub main_with : List SlotType → List Stmt → TypedFunction
+main_with slots body = record { name = codes "oc_main"; result = Nothing; params = 0; slots = slots; obliv = false; body = body }
 
 -- the tree of a program
 pub record IsProgram (ws : List Word) (t : Typed) : Type 0 where

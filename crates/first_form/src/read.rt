@@ -1,10 +1,10 @@
 //! Reading a source of the first form.
 
-ghost use Rattle.std.specs.Prelude.{◌≡◌, ◌≤◌, [], None, drop, length, map, IfOk, IfSome, IfNone, MatchOption, IsTrue};
+ghost use Rattle.std.specs.Prelude.{◌≡◌, ◌≤◌, [], ◌∷◌, None, drop, length, map, IfOk, IfSome, IfNone, MatchOption, IsTrue};
 ghost use Rattle.oc_tree.specs.declared.program.Typed.{Typed};
 ghost use Rattle.first_form.specs.Trees.{slot_type};
 ghost use Rattle.first_form.specs.Reading.{is_end, fitting_at, body_at, program_at};
-ghost use Rattle.first_form.specs.Scope.{named, IsNext, IsBody, IsProgram};
+ghost use Rattle.first_form.specs.Scope.{named, IsNext, IsBody, IsProgram, main_with};
 ghost use Rattle.first_form.specs.First.{First};
 
 use crate::item::{item, skip};
@@ -102,18 +102,11 @@ fn items<'s>(alloc: Global, words: &[Word<'s>], start: usize) -> Result<Option<B
     Ok(Some(Body { slots, statements }))
 }
 
-/// The tree of the words of a program.
-#[tactic(auto, unfolding(crate::specs::Reading::program_at))]
-fn program(alloc: Global, words: &[Word<'_>]) -> Result<Option<Typed>, NoMemory>
-    ensures { IfOk result (λ read. MatchOption read (program_at words.now ≡ None) (λ t. IsProgram words.now t)) }
+/// The one function of a program.
+fn main_of(alloc: Global, body: Body) -> Result<Items<TypedFunction>, NoMemory>
+    ensures { IfOk result (λ functions. functions ≡ main_with body.slots body.statements ∷ []) }
 {
-    let Some(start) = skip(words, 0, &OPENING_WORDS) else {
-        return Ok(None);
-    };
-    let Some(read) = items(alloc, words, start)? else {
-        return Ok(None);
-    };
-    let Body { slots, statements } = read;
+    let Body { slots, statements } = body;
     let main = TypedFunction {
         name: Name::from_bytes(alloc, b"oc_main")?,
         result: CType::Nothing,
@@ -124,6 +117,20 @@ fn program(alloc: Global, words: &[Word<'_>]) -> Result<Option<Typed>, NoMemory>
     };
     let mut functions = Items::new(alloc);
     functions.push(main)?;
+    Ok(functions)
+}
+
+/// The tree of the words of a program.
+fn program(alloc: Global, words: &[Word<'_>]) -> Result<Option<Typed>, NoMemory>
+    ensures { IfOk result (λ read. MatchOption read (program_at words.now ≡ None) (λ t. IsProgram words.now t)) }
+{
+    let Some(start) = skip(words, 0, &OPENING_WORDS) else {
+        return Ok(None);
+    };
+    let Some(body) = items(alloc, words, start)? else {
+        return Ok(None);
+    };
+    let functions = main_of(alloc, body)?;
     Ok(Some(Typed {
         functions,
         entry: 0,
