@@ -5,3 +5,4 @@ pub mod Spots
 pub mod Taking
 pub mod Bodies
 pub mod Typings
+pub mod Whole

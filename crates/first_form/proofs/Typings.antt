@@ -2,7 +2,7 @@
 use Rattle.std.proofs.Common.{◌≡◌, add-one, leb, ℕ, zero, suc, ◌+◌, ◌<◌, ◌≤◌, Bool, true, false, cond, eqb, List, [], ◌∷◌, ◌++◌, length, take, drop, map, Option, Some, None, refl, sym, ap, subst, ◌∙◌, append_assoc, arith, pos}
 use Rattle.std.specs.Prelude.{slice_get, ◌&&◌, ◌||◌}
 use Rattle.std.specs.List.{list_all}
-use Rattle.std.proofs.lemmas.Bool.{and_parts, and_from, eq-eqb}
+use Rattle.std.proofs.lemmas.Bool.{and_parts, and_from, eq-eqb, le-leb}
 use Rattle.std.proofs.lemmas.List.{append-nil, length-append, length-map, map-append, take_at}
 use Rattle.oc_values.specs.declared.integers.IntKind.TheVariants.{I32, I64}
 use Rattle.oc_values.specs.declared.integers.BinaryOp.{BinaryOp}
@@ -100,11 +100,11 @@ reveals_typed ss p q slot e there sum =
 
 prints_typed : (ss : List SlotType) (q : Spot) (slot : ℕ) → HoldsInt ss false slot → typed_expr ss Nothing (Builtin (Print (Decimal ∷ Text (10 ∷ []) ∷ [])) (reading q false slot ∷ [])) ≡ true
 unfolding hidden-the_row-TExpr-0 hidden-the_row-TExpr-1 hidden-the_row-CType-0 hidden
-prints_typed ss q slot there = ?
+prints_typed ss q slot there = and_from _ _ (ap (is_of_slot (int_type false)) there) refl
 
 fed_typed : (ss : List SlotType) (spots : List Spot) (party : ℕ) → is_party party ≡ true → typed_start ss (Some (record { ty = int_type true; frozen = false })) (Some (fed spots party)) ≡ true
 unfolding hidden-the_row-TExpr-0 hidden-the_row-TExpr-1 hidden-the_row-CType-0 hidden
-fed_typed ss spots party h = ?
+fed_typed ss spots party h = and_from _ _ h refl
 
 take_declared : (ds es : List Named) → take (length ds) (map slot_type (ds ++ es)) ≡ map slot_type ds
 take_declared ds es = ap (take (length ds)) (map-append slot_type ds es) ∙ take_at (map slot_type ds) (map slot_type es) (length ds) (length-map ds slot_type)
@@ -157,4 +157,4 @@ items_typed ds spots (i ∷ is) h =
 
 -- whatever the spots
 pub main_typed : (spots : List Spot) (is : List Item) → are_items [] is ≡ true → is_typed (main_function spots is ∷ []) 0 ≡ true
-main_typed spots is h = ?
+main_typed spots is h = and_from _ _ (and_from _ _ (le-leb 0 (length (map slot_type (all_declared is))) (omega arith)) (items_typed [] (drop 6 spots) is h)) refl
