@@ -19,7 +19,7 @@ use Rattle.first_form.proofs.Taking.{Takes, text_of, bind_some, cond_some, skip_
 
 -- ---- the end
 
-end_many : (ws : List Word) → 1 < length ws → is_end ws ≡ false
+pub end_many : (ws : List Word) → 1 < length ws → is_end ws ≡ false
 unfolding is_end
 end_many [] lt = absurd (omega arith)
 end_many (w ∷ []) lt = absurd (omega arith)
@@ -90,12 +90,12 @@ with_items-one : (done : List Item) (i : Item) (read : Option (List Item)) → w
 with_items-one done i None = refl
 with_items-one done i (Some others) = ap Some (sym (append_assoc done (i ∷ []) others))
 
-body_end : (n : ℕ) (ds : List Named) (ws : List Word) → is_end ws ≡ true → body_at n ds ws ≡ Some []
+pub body_end : (n : ℕ) (ds : List Named) (ws : List Word) → is_end ws ≡ true → body_at n ds ws ≡ Some []
 unfolding body_at
 body_end zero ds ws e = rw e refl
 body_end (suc n) ds ws e = rw e refl
 
-body_more : (n : ℕ) (ds : List Named) (ws : List Word) (i : Item) (rest : List Word) → is_end ws ≡ false → fitting_at ds ws ≡ Some (i, rest) → body_at (suc n) ds ws ≡ (body_at n (ds ++ declared_by i) rest >>= λ others. Some (i ∷ others))
+pub body_more : (n : ℕ) (ds : List Named) (ws : List Word) (i : Item) (rest : List Word) → is_end ws ≡ false → fitting_at ds ws ≡ Some (i, rest) → body_at (suc n) ds ws ≡ (body_at n (ds ++ declared_by i) rest >>= λ others. Some (i ∷ others))
 unfolding body_at
 body_more n ds ws i rest e f = rw (e, f) refl
 

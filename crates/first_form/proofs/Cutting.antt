@@ -71,7 +71,7 @@ same_bytes-true xs ys = (compares_Decides same_bytes is_bytes_eq xs ys).0
 pub same_bytes-same : (xs : List ℕ) → same_bytes xs xs ≡ true
 same_bytes-same xs = (compares_Decides same_bytes is_bytes_eq xs xs).1 refl
 
-nil_from_empty : (bs : List ℕ) → is_empty bs ≡ true → bs ≡ []
+pub nil_from_empty : (bs : List ℕ) → is_empty bs ≡ true → bs ≡ []
 nil_from_empty [] h = refl
 nil_from_empty (b ∷ bs) h = absurd (false≢true h)
 

@@ -6,3 +6,6 @@ pub mod Taking
 pub mod Bodies
 pub mod Typings
 pub mod Whole
+pub mod Unique
+pub mod Complete
+pub mod Proper

@@ -1,6 +1,6 @@
 -- The words of a text are a layout of it, each at its spot.
 use Rattle.std.proofs.Common.{◌≡◌, ℕ, zero, suc, ◌+◌, ◌≤◌, Bool, true, false, List, [], ◌∷◌, ◌++◌, length, take, map, Option, Some, None, refl, sym, ap, subst, ◌∙◌, append_assoc, arith, eqb, Result, Ok, Err}
-use Rattle.std.specs.Prelude.{fold, not, ◌&&◌, IfOk, IfSome, MatchOption}
+use Rattle.std.specs.Prelude.{fold, not, ◌&&◌, ◌<◌, IfOk, IfSome, IfNone, MatchOption}
 use Rattle.std.specs.List.{list_all}
 use Rattle.std.proofs.lemmas.Bool.{and_parts, and_from, and_left, and_right, not-true, not_from_false, or_parts, false≢true}
 use Rattle.std.proofs.lemmas.List.{take_at, length-append}
@@ -9,7 +9,7 @@ use Rattle.oc_tree.specs.declared.spot.Spot.{Spot}
 use Rattle.oc_tree.specs.declared.program.Typed.{Typed}
 use Rattle.oc_values.specs.declared.lists.NoMemory.{NoMemory}
 use Rattle.first_form.specs.declared.word.Word.{Word}
-use Rattle.first_form.specs.Items.{is_letter}
+use Rattle.first_form.specs.Items.{Item, is_letter, program_words}
 use Rattle.first_form.specs.Layout.{Piece, laid, is_blank, begins_with_letter, is_empty, is_apart, are_apart, starts, stepped, spot_at, spots_at}
 use Rattle.first_form.specs.Trees.{main_function}
 use Rattle.first_form.specs.Words.{is_word_byte, begins_with, is_cut, are_cut, first_spot, placed, shown, Splits}
@@ -18,6 +18,9 @@ use Rattle.first_form.specs.Scope.{spots_of, IsProgram}
 use Rattle.first_form.specs.First.{First}
 use Rattle.first_form.proofs.Taking.{text_of}
 use Rattle.first_form.proofs.Bodies.{program_reads}
+use Rattle.first_form.proofs.Unique.{is_proper, same_layout}
+use Rattle.first_form.proofs.Proper.{program_proper}
+use Rattle.first_form.proofs.Complete.{program_read}
 
 -- ---- blanks between words
 
@@ -92,3 +95,26 @@ pub found_from : (source : List ℕ) (ws : List Word) (r : Result (Option Typed)
 found_from source ws (Ok (Some t)) small s h = first_from source ws t small s h
 found_from source ws (Ok None) small s h = tt
 found_from source ws (Err e) small s h = tt
+
+-- ---- nothing is missed
+
+pub words_of_program : (source : List ℕ) (ws : List Word) (t : Typed) → Splits source ws → (f : First source t) → map text_of ws ≡ program_words f.items
+words_of_program source ws t s f =
+    let proper : list_all is_proper (map (λ p. p.word) f.pieces) ≡ true = ap (list_all is_proper) f.words ∙ program_proper f.items f.names in
+    texts_shown ws ∙ ap (map (λ (x : List ℕ × Spot). x.0)) s.words ∙ placed_words first_spot s.pieces ∙ same_layout s.pieces f.pieces s.end f.end false (sym s.text ∙ f.text) s.cut s.blank proper f.apart f.blank ∙ f.words
+
+none_is_some : (is : List Item) → None ≡ Some is → ⊥
+none_is_some is e = cc
+
+not_first : (source : List ℕ) (ws : List Word) (t : Typed) → Splits source ws → program_at ws ≡ None → First source t → ⊥
+not_first source ws t s none f =
+    let some = program_read ws f.items f.names f.count (words_of_program source ws t s f) in
+    none_is_some f.items (sym none ∙ some)
+
+pub none_from : (source : List ℕ) (ws : List Word) (r : Result (Option Typed) NoMemory) → Splits source ws → IfOk r (λ read. MatchOption read (program_at ws ≡ None) (λ t. IsProgram ws t)) → IfOk r (λ read. IfNone read ((t : Typed) → First source t → ⊥))
+none_from source ws (Ok (Some t)) s h = tt
+none_from source ws (Ok None) s h = λ t f. not_first source ws t s h f
+none_from source ws (Err e) s h = tt
+
+pub too_long : (source : List ℕ) → 1048576 < length source → (t : Typed) → First source t → ⊥
+too_long source long t f = omega (arith, f.size)

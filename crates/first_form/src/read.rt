@@ -142,6 +142,8 @@ fn program(alloc: Global, words: &[Word<'_>]) -> Result<Option<Typed>, NoMemory>
 pub fn read_first(alloc: Global, source: &[u8]) -> Result<Option<Typed>, NoMemory>
     // What is read is the text's tree.
     ensures found { IfOk result (λ read. IfSome read (λ t. First source.now t)) }
+    // Nothing is read only where no tree is the text's.
+    ensures none { IfOk result (λ read. IfNone read ((t : Typed) → First source.now t → ⊥)) }
 {
     if source.len() > MAX_BYTES {
         return Ok(None);
