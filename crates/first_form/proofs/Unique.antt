@@ -60,10 +60,10 @@ sign_cases b bs h =
     elim (or_cases (same_bytes (b ∷ bs) format_word) (is_empty bs && not (is_blank b || is_word_byte b || eqb b 34)) h) [
       | inl f ↦ inl (same_bytes-true (b ∷ bs) format_word f)
       | inr s ↦
-        let p = and_parts (is_empty bs) (not (is_blank b || is_word_byte b || eqb b 34)) s in
-        let q = or_parts (is_blank b || is_word_byte b) (eqb b 34) (not-true _ p.1) in
-        let r = or_parts (is_blank b) (is_word_byte b) q.0 in
-        inr (nil_from_empty bs p.0, r.0, r.1, q.1)
+          let p = and_parts (is_empty bs) (not (is_blank b || is_word_byte b || eqb b 34)) s in
+          let q = or_parts (is_blank b || is_word_byte b) (eqb b 34) (not-true _ p.1) in
+          let r = or_parts (is_blank b) (is_word_byte b) q.0 in
+          inr (nil_from_empty bs p.0, r.0, r.1, q.1)
     ]
 
 sign_from : (b : ℕ) (bs : List ℕ) (l : Bool) → l ≡ false → cond l (list_all is_word_byte bs) (same_bytes (b ∷ bs) format_word || (is_empty bs && not (is_blank b || is_word_byte b || eqb b 34))) ≡ true → IsSign b bs
@@ -176,6 +176,6 @@ same_layout (p ∷ ps) (q ∷ qs) e f before is cut be proper apart bf =
     let g = (and_parts (list_all is_blank q.gap) (is_apart before q) a.0).0 in
     let w = and_parts (is_proper q.word) (list_all is_proper (map (λ p. p.word) qs)) proper in
     let r = same_run is_blank p.gap q.gap (p.word ++ laid ps e) (q.word ++ laid qs f) d.0 g (cut_unblank p.word (laid ps e) (laid ps e) d.1) (proper_unblank q.word (laid qs f) w.0)
-        (sym (append_assoc p.gap p.word (laid ps e)) ∙ is ∙ append_assoc q.gap q.word (laid qs f)) in
+    (sym (append_assoc p.gap p.word (laid ps e)) ∙ is ∙ append_assoc q.gap q.word (laid qs f)) in
     let s = word_same p.word q.word (laid ps e) (laid qs f) d.1 w.0 (λ l. letters_end qs f w.1 (subst (λ b. are_apart b qs ≡ true) l a.1) bf) r.1 in
     ap (λ t. t ∷ map (λ p. p.word) ps) s.0 ∙ ap (λ t. q.word ∷ t) (same_layout ps qs e f (begins_with_letter q.word) s.1 c.1 be w.1 a.1 bf)

@@ -63,7 +63,7 @@ pub enum SourceItem<'s> {
 }
 
 /// The place after these words, which come next at a place.
-pub fn skip<'s>(words: &[Word<'s>], at: usize, expected: &[&[u8]]) -> Option<usize>
+pub fn skip(words: &[Word<'_>], at: usize, expected: &[&[u8]]) -> Option<usize>
     ensures { option_map (λ n. drop n words.now) result ≡ skip (map (λ e. e.now) expected.now) (drop at words.now) }
 {
     let mut end = at;
@@ -149,7 +149,7 @@ fn summands<'s>(
 
 /// The place after what stands between a hidden name and its party.
 #[tactic(auto, unfolding(crate::specs::Reading::feed_at))]
-fn feed<'s>(words: &[Word<'s>], at: usize) -> Option<usize>
+fn feed(words: &[Word<'_>], at: usize) -> Option<usize>
     ensures { option_map (λ n. drop n words.now) result ≡ feed_at (drop at words.now) }
 {
     skip(words, at, &FEED_WORDS)
@@ -157,7 +157,7 @@ fn feed<'s>(words: &[Word<'s>], at: usize) -> Option<usize>
 
 /// What feeds a hidden name: the private word 0 of a party.
 #[tactic(auto, unfolding(crate::specs::Reading::party_at))]
-fn party<'s>(words: &[Word<'s>], at: usize) -> Option<(u8, usize)>
+fn party(words: &[Word<'_>], at: usize) -> Option<(u8, usize)>
     ensures { option_map (λ r. (r.0, drop r.1 words.now)) result ≡ party_at (drop at words.now) }
 {
     let at = feed(words, at)?;

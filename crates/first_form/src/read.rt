@@ -80,7 +80,7 @@ fn next_statement<'s>(
 }
 
 /// The items from a place on, up to the end.
-fn items<'s>(alloc: Global, words: &[Word<'s>], start: usize) -> Result<Option<Body>, NoMemory>
+fn items(alloc: Global, words: &[Word<'_>], start: usize) -> Result<Option<Body>, NoMemory>
     ensures { IfOk result (λ read. MatchOption read (body_at 100 [] (drop start words.now) ≡ None) (λ b. IsBody (drop start words.now) b.slots b.statements)) }
 {
     let mut names = Vec::new(alloc);

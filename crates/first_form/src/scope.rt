@@ -88,10 +88,10 @@ pub fn is_item(names: &[DeclaredName<'_>], item: &SourceItem<'_>) -> bool
         SourceItem::Feeds { name, party } => is_new(names, name) && (*party == 1 || *party == 2),
         SourceItem::Declares { name } => is_new(names, name),
         SourceItem::Reveals { target, name, more } => {
-            is_known(names, false, target)
+            more.len() <= MORE_NAMES
+                && is_known(names, false, target)
                 && is_known(names, true, name)
                 && are_summands(names, more.as_slice())
-                && more.len() <= MORE_NAMES
         }
         SourceItem::Prints { name } => is_known(names, false, name),
     }
