@@ -13,3 +13,6 @@ mod tree;
 mod word;
 
 pub use read::read_first;
+
+#[cfg(test)]
+mod tests;
