@@ -7,3 +7,13 @@ pub mod EndingSteps
 pub mod EndingItems
 pub mod EndingSample
 pub mod EndingWrap
+pub mod Cutting
+pub mod Skipping
+pub mod Spots
+pub mod Taking
+pub mod Bodies
+pub mod Typings
+pub mod Whole
+pub mod Unique
+pub mod Complete
+pub mod Proper
