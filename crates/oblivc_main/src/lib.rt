@@ -16,3 +16,6 @@ mod words;
 
 pub use arguments::serve_process;
 pub use program::oblivcc;
+
+#[cfg(test)]
+mod tests;
