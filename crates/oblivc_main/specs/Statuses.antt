@@ -6,7 +6,7 @@ use Rattle.oc_tree.specs.declared.program.Typed.{Typed}
 use Rattle.first_form.specs.First.{First as Reads}
 use Rattle.oblivc_main.specs.Inputs.{IsInput}
 use Rattle.oblivc_main.specs.Reading.{Told, Refuses}
-use Rattle.oblivc_main.specs.Words.{IsClear, Usage}
+use Rattle.oblivc_main.specs.Words.{IsClear, Usage, Breaks}
 use Rattle.oblivc_main.specs.Lines.{usage_line, refused_line, file_line, input_line, output_line, memory_line}
 use Rattle.oblivc_main.specs.Endings.{Files, Output, PrintsAll, PrintsNothing, PrintsFront, IsUnreadable, IsWrong, named, name_of}
 use Rattle.oblivc_main.specs.declared.stop.Stop.{Stop}
@@ -113,3 +113,11 @@ line_of source first second NoMemory = memory_line
 -- what saying a line answers: this status, where the line was appended or the faults rose, or want of memory
 abbrev pub Said : Output → List ℕ → ℕ → ℕ → Type 0
 Said e line status result = ((result ≡ status) × Says e line) ⊎ (result ≡ 10)
+
+-- words before one that isn't text: the line was said, with its number
+abbrev pub IsBroken : Call → ℕ → Type 0
+IsBroken c status = (k : ℕ) × Breaks c.words k × PrintsNothing c.out × Said c.err (usage_line k) 2 status
+
+-- the answer for a process, whose words are told by nothing: it is that for some words
+abbrev pub Served : (List (List ℕ) → Call) → ℕ → Type 0
+Served call status = (words : List (List ℕ)) × (Answered (call words) status ⊎ IsBroken (call words) status)

@@ -23,6 +23,13 @@ pub record Usage (words : List (List ℕ)) (k : ℕ) : Type 0 where
   pub begun : BeginsCommand (take k words)
   pub fault : k < length words → BeginsCommand (take (k + 1) words) → ⊥
 
+-- the words before one that isn't text: k is the least index such that no command begins with the words 0 to k, or the
+-- number of words, since no command has such a word
+pub record Breaks (words : List (List ℕ)) (k : ℕ) : Type 0 where
+  pub within : k ≤ length words
+  pub begun : BeginsCommand (take k words)
+  pub fault : k < length words → BeginsCommand (take (k + 1) words) → ⊥
+
 -- the bytes of the words
 abbrev pub texts : {Y : Type 0} → List (String Y) → List (List ℕ)
 texts words = map string_bytes words

@@ -1,6 +1,7 @@
 //! The words that a process was started with.
 
 ghost use Rattle.std.specs.Prelude.{◌≡◌, ◌≤◌, ◌-◌, ◌^◌, ◌<◌};
+ghost use Rattle.oblivc_main.specs.Statuses.{Served};
 
 use crate::program::{oblivcc, refuse_words};
 use oc_outside::{Dialer, Sink, Vault};
@@ -82,6 +83,15 @@ pub fn serve_process<R: Env, V: Vault, D: Dialer, S: Sink, E: Sink>(
     err: &mut E,
 ) -> u8
     requires { D.closed dialer.old < 2 ^ 64 - 1 }
+    ensures served { Served (λ words. record {
+      words = words;
+      told = V.contents files.old;
+      faults_before = V.faults files.old;
+      faults_after = V.faults files.new;
+      failed = V.failed files.new;
+      out = record { faults_before = S.faults out.old; faults_after = S.faults out.new; before = S.written out.old; after = S.written out.new };
+      err = record { faults_before = E.faults err.old; faults_after = E.faults err.new; before = E.written err.old; after = E.written err.new };
+    }) result }
     ensures contents { V.contents files.new ≡ V.contents files.old }
     ensures dialer { dialer.new ≡ dialer.old }
 {

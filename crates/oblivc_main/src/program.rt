@@ -1,8 +1,9 @@
 //! The whole program, over any outside.
 
 ghost use Rattle.std.specs.Prelude.{◌≡◌, ◌+◌, ◌-◌, ◌^◌, ◌<◌, ℕ, List, [], get_or, length, ◌⊎◌};
-ghost use Rattle.oblivc_main.specs.Words.{texts};
-ghost use Rattle.oblivc_main.specs.Statuses.{Answered, Completes};
+ghost use Rattle.oblivc_main.specs.Words.{texts, Breaks};
+ghost use Rattle.oblivc_main.specs.Lines.{usage_line};
+ghost use Rattle.oblivc_main.specs.Statuses.{Answered, Completes, Said};
 
 use crate::command::clear;
 use crate::saying::{line_for_usage, report, say_line};
@@ -24,12 +25,14 @@ fn word(words: &[String], at: usize) -> &str
 /// Says that words aren't a command, where the word after them isn't text: no command begins with that one,
 /// if with those before it.
 pub fn refuse_words<E: Sink>(alloc: Global, words: &[String], err: &mut E) -> u8
-    ensures { (result ≡ 2) ⊎ (result ≡ 10) }
+    ensures { (k : ℕ) × Breaks (texts words.now) k × Said (record {
+      faults_before = E.faults err.old;
+      faults_after = E.faults err.new;
+      before = E.written err.old;
+      after = E.written err.new;
+    }) (usage_line k) 2 result }
 {
-    let k = match find_fault(words) {
-        Some(k) => k,
-        None => words.len(),
-    };
+    let k = find_fault(words).unwrap_or(words.len());
     say_line(err, line_for_usage(alloc, k), USAGE)
 }
 

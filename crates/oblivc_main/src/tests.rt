@@ -161,6 +161,19 @@ fn padded(alloc: Global, length: usize) -> Result<Vec<u8>, Fail> {
     Ok(source)
 }
 
+// The sum, printed this many times.
+fn printed(alloc: Global, times: u32) -> Result<Vec<u8>, Fail> {
+    let mut source = Vec::new(alloc);
+    source.extend_from_slice(SUM)?;
+    // Without the closing brace and the newline after it.
+    source.truncate(SUM.len() - 2);
+    for _ in 1..times {
+        source.extend_from_slice(b" printf(\"%d\\n\", r);\n")?;
+    }
+    source.push(b'}')?;
+    Ok(source)
+}
+
 #[test]
 fn sources(rt: HostRuntime) -> Result<(), Fail> {
     let alloc = rt.alloc();
@@ -187,6 +200,25 @@ fn sources(rt: HostRuntime) -> Result<(), Fail> {
     // The refusal of a source comes before the faults of an input.
     let mut both = put_files(alloc, &[], b"x", b"", b"")?;
     expect(&rt, alloc, &COMMAND, &mut both, 1, b"", b"refused X1 1:1\n")?;
+    // Four items before the prints: 100 items, and 101.
+    let most = printed(alloc, 96)?;
+    let mut hundred = put_files(alloc, &[], most.as_slice(), b"5", b"7")?;
+    let mut lines = Vec::new(alloc);
+    for _ in 0..96 {
+        lines.extend_from_slice(b"12\n")?;
+    }
+    expect(&rt, alloc, &COMMAND, &mut hundred, 0, lines.as_slice(), b"")?;
+    let many = printed(alloc, 97)?;
+    let mut too_many = put_files(alloc, &[], many.as_slice(), b"5", b"7")?;
+    expect(
+        &rt,
+        alloc,
+        &COMMAND,
+        &mut too_many,
+        1,
+        b"",
+        b"refused X1 1:1\n",
+    )?;
     let longest = padded(alloc, 1_048_576)?;
     let mut files = put_files(alloc, &[], longest.as_slice(), b"5", b"7")?;
     expect(&rt, alloc, &COMMAND, &mut files, 0, b"12\n", b"")?;

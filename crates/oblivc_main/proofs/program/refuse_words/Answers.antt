@@ -1,6 +1,14 @@
+use Rattle.std.proofs.Common.{◌≡◌, sym, ap, ◌∙◌, subst, List, ℕ, length, map}
+use Rattle.std.proofs.lemmas.List.{length-map}
+use Rattle.std.specs.Prelude.{string_bytes}
+use Rattle.std.specs.Option.{unwrap_or}
+use Rattle.oblivc_main.specs.Words.{texts, Breaks}
 use Rattle.oblivc_main.specs.Lines.{usage_line}
-use Rattle.oblivc_main.proofs.Causes.{status_only}
+use Rattle.oblivc_main.proofs.Causes.{breaks_of}
 use Rattle.oblivc_main.proofs.program.refuse_words.Goals as goal
 
 pub returns : goal.returns
-returns g c = status_only _ _ 2 c.say_line.result (c.say_line.ensures (usage_line c.match-find_fault.k) c.line_for_usage.ensures)
+returns g c =
+    let ws = texts c.args.words.now in
+    let size : length c.args.words.now ≡ length ws = sym (length-map c.args.words.now string_bytes) in
+    (c.unwrap_or-k.result, subst (Breaks ws) (sym c.unwrap_or-k.ensures) (breaks_of ws (length c.args.words.now) size c.find_fault.result c.find_fault.ensures), c.say_line.ensures (usage_line c.unwrap_or-k.result) c.line_for_usage.ensures)
