@@ -1,0 +1,10 @@
+pub mod Sizes
+pub mod Accesses
+pub mod Writes
+pub mod Copies
+pub mod Growing
+pub mod Formed
+pub mod Leafy
+pub mod Living
+pub mod Making
+pub mod Alike

@@ -1,0 +1,19 @@
+use Rattle.std.proofs.Common.{◌≡◌, ap, sym, subst, refl, ◌∙◌, ◌≤◌, length}
+use Rattle.oc_tree.specs.Layout.{leaves}
+use Rattle.oc_tree.specs.Memory.{living, AllHaveForm, copied}
+use Rattle.block_memory.proofs.Writes.{living_copied}
+use Rattle.block_memory.proofs.Sizes.{sized}
+use Rattle.block_memory.proofs.Formed.{form_copied}
+use Rattle.block_memory.proofs.blocks.Blocks.copy_cells.Goals as goal
+
+pub invariant_of-self : goal.invariant_of-self
+invariant_of-self g c =
+    let ls = leaves c.self.inside.structs c.args.ty.now in
+    let small : length (leaves c.self.inside.structs c.args.ty.now) ≤ 65536 = subst (λ m. length (leaves m.structs c.args.ty.now) ≤ 65536) (sym c.self.view_is) (sized _ c.requires).1 in
+    let e = c.copy_all.ensures ∙ ap (λ n. copied n c.self.inside.blocks c.args.to c.args.from) (c.count_cells.ensures.0 small) in (
+      c.self.invariant.0 ∙ sym (living_copied (length ls) c.self.inside.blocks c.args.to c.args.from) ∙ ap living (sym e),
+      c.self.invariant.1,
+      c.self.invariant.2,
+      subst AllHaveForm (sym e) (form_copied ls c.self.inside.blocks c.args.to c.args.from (sym c.in_ok-check_loads.ensures) (sym c.in_ok-check_stores.ensures) c.self.invariant.3),
+      c.self.invariant.4,
+    )

@@ -1,0 +1,7 @@
+use Rattle.std.proofs.Common.{◌≡◌, ◌++◌}
+use Rattle.oc_tree.specs.Layout.{leaves, repeated}
+use Rattle.oc_tree.specs.Memory.{blanks}
+use Rattle.block_memory.proofs.blocks.push_copies.Given as goal
+
+abbrev pub invariant-loop : goal.invariant-loop
+invariant-loop g l = l.out ≡ l.initial.out ++ blanks g.C.HiddenCell.zero_of (repeated l.counter (leaves l.table l.ty))

@@ -1,0 +1,62 @@
+-- What the blocks of a run are to contracts, and what the calls that change them answer.
+use Rattle.std.specs.Prelude.{◌≡◌, ◌≤◌, ◌<◌, nat_le, Bool, ◌&&◌, ℕ, ◌+◌, List, [], ◌∷◌, length, slice_get, Option, Some, None, Result, Ok, Err, true, false}
+use Rattle.oc_tree.specs.declared.types.CType.{CType, Int, Pointer'}
+use Rattle.oc_tree.specs.declared.memory.Address.{Address}
+use Rattle.oc_tree.specs.declared.memory.Address.TheVariants.{Null, At}
+use Rattle.oc_tree.specs.declared.memory.Block.{Block}
+use Rattle.oc_tree.specs.declared.memory.Block.TheVariants.{Live, Gone}
+use Rattle.oc_tree.specs.declared.outcome.TrapKind.{TrapKind}
+use Rattle.block_memory.specs.declared.blocks.MakeRefusal.{MakeRefusal}
+use Rattle.block_memory.specs.declared.blocks.MakeRefusal.TheVariants.{Trap, NoMemory}
+
+-- the blocks, how many cells may live, and the leaves of each struct that types name
+pub record Memory (H : Type 0) : Type 0 where
+  pub blocks : List (Block H)
+  pub limit : ℕ
+  pub structs : List (List CType)
+
+-- the address so many cells further on
+abbrev pub ahead : Address → ℕ → Address
+ahead Null n = Null
+ahead (At b i) n = At b (i + n)
+
+-- whether a type has as many cells as it may have
+abbrev pub has_size : List CType → Bool
+has_size leaves = nat_le 1 (length leaves) && nat_le (length leaves) 65536
+
+-- a count of leaves that is right where a type may have so many, and else too large as well
+abbrev pub Counts : ℕ → ℕ → Type 0
+Counts leaves count = (leaves ≤ 65536 → count ≡ leaves) × (65536 < leaves → 65536 < count)
+
+-- the leaf of this number that is right where a type may have so many
+abbrev pub FindsLeaf : List CType → ℕ → Option CType → Type 0
+FindsLeaf leaves number found = length leaves ≤ 65536 → found ≡ slice_get leaves number
+
+abbrev pub is_live : {H : Type 0} → Option (Block H) → Bool
+is_live (Some (Live allocated cells)) = true
+is_live _ = false
+
+-- the blocks that are answered stand, or the memory is as it was at a trap
+abbrev pub Follows : {H : Type 0} → Result (List (Block H)) TrapKind → Result (Unit {0}) TrapKind → Memory H → Memory H → Type 0
+Follows r (Ok u) old new = (r ≡ Ok new.blocks) × (new ≡ record old { blocks = new.blocks })
+Follows r (Err kind) old new = (r ≡ Err kind) × (new ≡ old)
+
+-- the same of a new block, whose number is the number of blocks before it; want of memory leaves all as it was
+abbrev pub Makes : {H : Type 0} → Result (List (Block H)) TrapKind → Result ℕ MakeRefusal → Memory H → Memory H → Type 0
+Makes r (Ok number) old new = (number ≡ length old.blocks) × (r ≡ Ok new.blocks) × (new ≡ record old { blocks = new.blocks })
+Makes r (Err (Trap kind)) old new = (r ≡ Err kind) × (new ≡ old)
+Makes r (Err NoMemory) old new = new ≡ old
+
+-- an integer or pointer type, as a cell is made with
+abbrev pub IsLeaf : CType → Type 0
+IsLeaf (Int k o) = Unit {0}
+IsLeaf (Pointer' f u t) = Unit {0}
+IsLeaf _ = ⊥
+
+abbrev pub AreLeaves : List CType → Type 0
+AreLeaves [] = Unit {0}
+AreLeaves (l ∷ ls) = IsLeaf l × AreLeaves ls
+
+abbrev pub AllAreLeaves : List (List CType) → Type 0
+AllAreLeaves [] = Unit {0}
+AllAreLeaves (ls ∷ lss) = AreLeaves ls × AllAreLeaves lss

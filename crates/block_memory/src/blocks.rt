@@ -1,0 +1,250 @@
+//! The blocks of a run.
+
+ghost use Rattle.std.specs.Prelude.{◌≡◌, ◌+◌, ◌≤◌, ◌^◌, pos, ◌+ℤ◌, ◌*ℤ◌, nat_le, nat_lt, ◌&&◌, ◌<◌, ◌*◌, ◌++◌, max, length, slice_get, [], IfOk, OnOk, IsTrue};
+ghost use Rattle.oc_tree.specs.Layout.{leaves, struct_leaves, repeated};
+ghost use Rattle.oc_tree.specs.Memory.{load, store, storable, copy, offset, placed, ended, free, living, make_copies, blanks, HasForm};
+ghost use Rattle.block_memory.specs.Content.{Memory, has_size, is_live, Follows, Makes};
+
+use crate::cells::{find_cell, put_cell, weigh};
+use crate::copying::{check_loads, check_stores, copy_all};
+use crate::hidden::{HiddenCell, copy_value};
+use crate::layout::{Table, count_cells, push_blanks};
+use oc_tree::{
+    Address, Block, CType, Cell, CellValue, Items, NoMemory, Row, StructType, TrapKind, fits_type,
+    same_type, table_of,
+};
+use std::alloc::{AllocError, Global};
+use std::marker::Model;
+
+/// How many cells a type may have.
+const MOST_CELLS: u32 = 65_536;
+
+/// How many blocks are ever made.
+const MOST_BLOCKS: usize = 1 << 63;
+
+/// Why no block is made.
+#[derive(Clone, Copy, Debug, PartialEq, Eq)]
+pub enum MakeRefusal {
+    /// M4: the number of copies is negative, the live cells would pass the limit, or 2^63 blocks were made.
+    Trap(TrapKind),
+    NoMemory,
+}
+
+/// Numbered blocks of cells, which contracts see as their list, with the limit of live cells and the leaves of
+/// each struct. A block's number is never used again.
+#[derive(Drop)]
+pub struct Blocks<'t, C> {
+    alloc: Global,
+    blocks: Row<Block<'t, C>>,
+    structs: Table<'t>,
+    limit: u32,
+    live: u64,
+}
+
+impl<'t, C> Model for Blocks<'t, C> {
+    ghost use Rattle.std.specs.Prelude.{◌≡◌, ◌≤◌, ◌<◌, ◌^◌};
+    ghost use Rattle.oc_tree.specs.Memory.{living, AllHaveForm};
+    ghost use Rattle.block_memory.specs.Content.{Memory, AllAreLeaves};
+    ghost use Rattle.oc_tree.specs.contracts.types.CType as e;
+    ghost use Rattle.std.specs.Coded.{codes};
+
+    ghost Value = { Memory C };
+
+    ghost coded = { Prim.hlevel (codes, C.code, e.the_row.coded) };
+
+    ghost view = { λ b. record { blocks = b.blocks; limit = b.limit; structs = b.structs } };
+
+    ghost invariant = { λ b. (b.live ≡ living b.blocks) × (b.live ≤ b.limit) × (b.limit < 2 ^ 32) × AllHaveForm b.blocks × AllAreLeaves b.structs };
+}
+
+impl<'t, C: HiddenCell + Drop> Blocks<'t, C> {
+    /// No block. Types name these structs by their numbers, and up to `limit` cells live at a time, where a live
+    /// block without cells counts as one.
+    pub fn new(
+        alloc: Global,
+        structs: &'t Items<StructType>,
+        limit: u32,
+    ) -> Result<Blocks<'t, C>, NoMemory>
+        ensures { IfOk result (λ memory. memory ≡ record { blocks = []; limit = limit; structs = struct_leaves structs.now }) }
+    {
+        Ok(Blocks {
+            alloc,
+            blocks: Row::new(alloc),
+            structs: table_of(alloc, structs)?,
+            limit,
+            live: 0,
+        })
+    }
+
+    /// Whether a type has 1 to 65,536 cells, as each block and each copy needs. Takes no memory.
+    pub fn has_size(&self, ty: &CType) -> bool
+        ensures { result ≡ has_size (leaves self.now.structs ty.now) }
+    {
+        let cells = count_cells(&self.structs, ty);
+        1 <= cells && cells <= MOST_CELLS
+    }
+
+    /// Whether a block of this number was made, and neither ended nor was freed. Takes no memory.
+    pub fn is_live(&self, block: u64) -> bool
+        ensures { result ≡ is_live (slice_get self.now.blocks block) }
+    {
+        matches!(self.blocks.get(block as usize), Some(Block::Live { .. }))
+    }
+
+    /// Whether so many copies of so many cells fit beside those that live.
+    fn has_room(&self, cells: u32, count: u32) -> bool
+        ensures { result ≡ (nat_le (living self.now.blocks + max 1 (count * cells)) self.now.limit && nat_lt (length self.now.blocks) (2 ^ 63)) }
+    {
+        let weight = (u64::from(count) * u64::from(cells)).max(1);
+        self.live + weight <= u64::from(self.limit) && self.blocks.len() < MOST_BLOCKS
+    }
+
+    /// A new live block of `count` copies of the cells of a type, zero and null everywhere. Its number.
+    pub fn make_block(
+        &mut self,
+        ty: &'t CType,
+        count: i128,
+        allocated: bool,
+    ) -> Result<u64, MakeRefusal>
+        requires { IsTrue (has_size (leaves self.old.structs ty.now)) }
+        ensures { Makes (make_copies C.zero_of self.old.limit allocated self.old.blocks (leaves self.old.structs ty.now) count) result self.old self.new }
+    {
+        let each = count_cells(&self.structs, ty);
+        let Ok(copies) = u32::try_from(count) else {
+            return Err(MakeRefusal::Trap(TrapKind::M4));
+        };
+        if !self.has_room(each, copies) {
+            return Err(MakeRefusal::Trap(TrapKind::M4));
+        }
+        let number = self.blocks.len() as u64;
+        let mut cells = Row::new(self.alloc);
+        let Ok(()) = push_copies(&self.structs, ty, copies, &mut cells) else {
+            return Err(MakeRefusal::NoMemory);
+        };
+        let block = Block::Live { allocated, cells };
+        let weight = weigh(&block);
+        let Ok(()) = self.blocks.push(block) else {
+            return Err(MakeRefusal::NoMemory);
+        };
+        self.live += weight;
+        Ok(number)
+    }
+
+    /// The block is gone, and its cells with it. Takes no memory.
+    pub fn end_block(&mut self, block: u64)
+        requires { IsTrue (is_live (slice_get self.old.blocks block)) }
+        ensures { self.new ≡ record self.old { blocks = ended self.old.blocks block } }
+    {
+        let ended = self.blocks.replace(block as usize, Block::Gone);
+        self.live -= weigh(&ended);
+    }
+
+    /// Ends the allocated block that starts at an address. Nothing is done at null. Takes no memory.
+    pub fn free_block(&mut self, at: Address) -> Result<(), TrapKind>
+        ensures { Follows (free self.old.blocks at) result self.old self.new }
+    {
+        let Address::At { block, offset } = at else {
+            return Ok(());
+        };
+        match self.blocks.get(block as usize) {
+            Some(Block::Live { allocated, .. }) => {
+                if !*allocated || offset != 0 {
+                    return Err(TrapKind::M1);
+                }
+            }
+            _ => return Err(TrapKind::M2),
+        }
+        self.end_block(block);
+        Ok(())
+    }
+
+    /// The value of the cell at an address, read with this leaf. Takes no memory.
+    pub fn load(&self, at: Address, leaf: &CType) -> Result<CellValue<C>, TrapKind>
+        ensures { result ≡ load self.now.blocks at leaf.now }
+    {
+        let cell = find_cell(&self.blocks, at, 0)?;
+        if !fits_type(leaf, cell.leaf.get()) {
+            return Err(TrapKind::M5);
+        }
+        Ok(copy_value(&cell.value))
+    }
+
+    /// Writes the cell at an address with this leaf. Takes no memory.
+    pub fn store(&mut self, at: Address, leaf: &CType, value: CellValue<C>) -> Result<(), TrapKind>
+        requires { HasForm leaf.now value }
+        ensures { Follows (store self.old.blocks at leaf.now value) result self.old self.new }
+    {
+        let cell = find_cell(&self.blocks, at, 0)?;
+        if !same_type(true, leaf, cell.leaf.get()) {
+            return Err(TrapKind::M5);
+        }
+        put_cell(&mut self.blocks, at, 0, value);
+        Ok(())
+    }
+
+    /// Copies the cells of a type from one address to another in ascending order, each read just before it is
+    /// written, after all were checked. Takes no memory.
+    pub fn copy_cells(&mut self, to: Address, from: Address, ty: &CType) -> Result<(), TrapKind>
+        requires { IsTrue (has_size (leaves self.old.structs ty.now)) }
+        ensures { Follows (copy self.old.blocks to from (leaves self.old.structs ty.now)) result self.old self.new }
+    {
+        check_loads(&self.blocks, from, &self.structs, ty)?;
+        check_stores(&self.blocks, to, &self.structs, ty)?;
+        copy_all(&mut self.blocks, to, from, count_cells(&self.structs, ty));
+        Ok(())
+    }
+
+    /// The address moved by so many elements of this size. Takes no memory.
+    pub fn offset(&self, at: Address, amount: i128, size: u32) -> Result<Address, TrapKind>
+        ensures { result ≡ offset self.now.blocks at amount size }
+    {
+        match at {
+            Address::Null => Err(TrapKind::M3),
+            Address::At { block, offset } => match self.blocks.get(block as usize) {
+                Some(Block::Live { cells, .. }) => place(block, cells.len(), offset, amount, size),
+                _ => Err(TrapKind::M2),
+            },
+        }
+    }
+}
+
+/// Adds the blank cells of so many copies of a type.
+fn push_copies<'t, C: HiddenCell + Drop>(
+    table: &Table<'t>,
+    ty: &'t CType,
+    count: u32,
+    out: &mut Row<Cell<'t, C>>,
+) -> Result<(), AllocError>
+    ensures { OnOk result (out.new ≡ out.old ++ blanks C.zero_of (repeated count (leaves table.now ty.now))) }
+{
+    for _ in 0..count {
+        push_blanks(table, ty, out)?;
+    }
+    Ok(())
+}
+
+/// The place so many elements of a size away from an offset, in a block of so many cells or just after them.
+fn place(
+    block: u64,
+    cells: usize,
+    offset: u32,
+    amount: i128,
+    size: u32,
+) -> Result<Address, TrapKind>
+    requires { cells < 2 ^ 32 }
+    ensures { result ≡ placed block cells (pos offset +ℤ amount *ℤ pos size) }
+{
+    let Some(way) = amount.checked_mul(i128::from(size)) else {
+        return Err(TrapKind::M1);
+    };
+    let Some(to) = way.checked_add(i128::from(offset)) else {
+        return Err(TrapKind::M1);
+    };
+    if to < 0 || to > cells as i128 {
+        return Err(TrapKind::M1);
+    }
+    Ok(Address::At {
+        block,
+        offset: to as u32,
+    })
+}
