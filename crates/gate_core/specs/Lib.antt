@@ -1,0 +1,5 @@
+pub mod Circuit
+pub mod Relations
+pub mod Laws
+pub mod GateList
+pub mod Backends

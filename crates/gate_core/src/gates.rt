@@ -1,0 +1,54 @@
+//! What makes gates.
+
+ghost use Rattle.std.specs.Prelude.{◌≡◌, ℕ, ◌<◌, Bool, false};
+ghost use Rattle.gate_core.specs.Circuit.{Calls};
+ghost use Rattle.gate_core.specs.Laws.{Laws, Counts};
+
+/// A backend: it makes gates, one after another, and gives each a wire. XOR and NOT are free, and each AND
+/// is counted.
+pub trait Gates {
+    /// What carries a bit. Its default stands for 0.
+    type Wire: Copy + Default;
+
+    // The wire stands for this bit.
+    ghost stands: { Self → Self.Wire → Bool → Type 0 };
+
+    // What its own calls give.
+    ghost calls: { Calls Self Self.Wire };
+
+    // How many ANDs were made, of which clauses speak modulo 2^64.
+    ghost made: { Self → ℕ };
+
+    // How many ANDs can be made now.
+    ghost room: { Self → ℕ };
+
+    /// A wire for a bit that is known to all.
+    fn known(&self, bit: bool) -> Self::Wire
+        ensures { result ≡ calls.known_wire self.now bit };
+
+    /// A wire for the exclusive or.
+    fn xor(&self, a: Self::Wire, b: Self::Wire) -> Self::Wire
+        ensures { result ≡ calls.xor_wire self.now a b };
+
+    /// A wire for the other bit.
+    fn not(&self, a: Self::Wire) -> Self::Wire
+        ensures { result ≡ calls.not_wire self.now a };
+
+    /// Makes an AND gate.
+    fn and(&mut self, a: Self::Wire, b: Self::Wire) -> Self::Wire
+        requires { 0 < room self.old }
+        ensures { calls.and_is self.old a b result self.new };
+
+    /// How many ANDs can be made now.
+    fn room(&self) -> u32
+        ensures { result ≡ room self.now };
+
+    // Each call gives a wire that stands for its function of the bits.
+    ghost laws: { Laws calls stands };
+
+    // The default wire stands for 0.
+    ghost default_stands: { (s : Self) (w : Self.Wire) → Self.Wire.is_default w → stands s w false };
+
+    // An AND is counted, and takes room for one at most.
+    ghost counts: { Counts calls made room };
+}

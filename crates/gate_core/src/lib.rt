@@ -1,0 +1,17 @@
+//! Gates: what every backend of a word circuit gives, and two plain backends.
+//!
+//! A backend makes gates one after another and gives each a wire. What carries a bit is the backend's own
+//! affair: a bit, a label, a share, or nothing at all. `Gates` says what its calls give, which bit a wire
+//! stands for, and what an AND costs. `PlainBits` has bits as wires, `Blank` only counts.
+#![tactic(auto)]
+
+mod blank;
+mod gates;
+mod plain;
+
+pub use blank::Blank;
+pub use gates::Gates;
+pub use plain::PlainBits;
+
+#[cfg(test)]
+mod tests;

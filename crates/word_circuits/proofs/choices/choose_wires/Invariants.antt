@@ -1,0 +1,9 @@
+use Rattle.std.proofs.Common.{◌≡◌, length}
+use Rattle.gate_core.specs.Circuit.{Plays}
+use Rattle.word_circuits.specs.Choices.{choose}
+use Rattle.word_circuits.proofs.choices.choose_wires.Given as goal
+
+abbrev pub invariant-places : goal.invariant-places
+invariant-places g l =
+    (length l.wires.items ≡ l.i)
+    × ((d : _) → Plays g.G.Gates.calls (choose l.e l.x l.y l.kept d l.i) l.initial.gates l.wires.items l.gates)

@@ -1,0 +1,35 @@
+use Rattle.std.proofs.Common.{bit_and, ◌++◌, length, arith, refl, sym, ap, ◌∙◌, rules}
+use Rattle.word_circuits.specs.Integers.{combine}
+use Rattle.word_circuits.specs.Choices.{meet_circuit}
+use Rattle.word_circuits.specs.Fragments.Operation.{op_meet}
+use Rattle.word_circuits.proofs.Calling.{width_pos, width_most, width_of, owed, carried_two, means_two, length-two, on_two}
+use Rattle.word_circuits.proofs.Selecting.{Uniform-meet, Counted-meet}
+use Rattle.word_circuits.proofs.Selecting.{integer-meet}
+use Rattle.word_circuits.proofs.choices.meet.Goals as goal
+
+pub meet_wires-requires : goal.meet_wires-requires
+meet_wires-requires g c =
+    let x = c.wires.ensures.value in
+    let y = c.wires-2.ensures.value in
+    (search rules, (ap length x ∙ c.requires.same ∙ ap length (sym y), (width_most _ c.wires.ensures.width, rw x c.requires.room)))
+
+pub returns : goal.returns
+returns g c =
+    let m = g.G.Gates.calls in
+    let law = g.met.G.Gates.laws in
+    let x = c.args.x.now in
+    let y = c.args.y.now in
+    let w = length x in
+    let some = width_pos w (width_of _ x c.wires.ensures.value c.wires.ensures.width) in
+    let same = sym c.requires.same in
+    let q = on_two m op_meet w (λ d u v. meet_circuit w u v d) x y _ _ _ (λ d xs. refl) refl
+    (λ d. carried_two m (λ u v. meet_circuit (length u) u v d) _ x _ y _ c.of_array.result _ _ c.wires.ensures.value c.wires-2.ensures.value c.of_array.ensures (c.meet_wires.ensures.plays d)) in
+    let o = owed m g.G.Gates.stands g.G.Gates.made g.G.Gates.room law g.met.G.Gates.counts op_meet w (x ++ y) _ _ _ (omega (arith, some)) (length-two x y w refl same) (Uniform-meet w) (Counted-meet w) q in
+    record {
+      plays = o.plays;
+      means = λ signed. means_two m g.G.Gates.stands law op_meet w x y _ _ _ refl same (Uniform-meet w) q signed signed signed (λ a b. combine signed w bit_and a b) (integer-meet signed w some);
+      made = o.made;
+      room = o.room;
+      width = o.width;
+      keeps = o.keeps;
+    }

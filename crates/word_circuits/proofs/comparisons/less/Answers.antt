@@ -1,0 +1,36 @@
+use Rattle.std.proofs.Common.{int_lt, ◌++◌, length, arith, refl, sym, ap, ◌∙◌, rules, false}
+use Rattle.word_circuits.specs.Integers.{number_of}
+use Rattle.word_circuits.specs.Chains.{less_circuit}
+use Rattle.word_circuits.specs.Fragments.Operation.{op_less}
+use Rattle.word_circuits.proofs.Calling.{width_pos, width_most, width_of, owed, carried_two, means_two, length-two, on_two}
+use Rattle.word_circuits.proofs.Summing.{Uniform-less, Counted-less}
+use Rattle.word_circuits.proofs.Totals.{integer-less}
+use Rattle.word_circuits.proofs.comparisons.less.Goals as goal
+
+pub less_wires-requires : goal.less_wires-requires
+less_wires-requires g c =
+    let x = c.wires.ensures.value in
+    let y = c.wires-2.ensures.value in
+    let some = width_pos _ c.wires.ensures.width in
+    (search rules, (some, (ap length x ∙ c.requires.same ∙ ap length (sym y), (width_most _ c.wires.ensures.width, rw x c.requires.room))))
+
+pub returns : goal.returns
+returns g c =
+    let m = g.G.Gates.calls in
+    let law = g.met.G.Gates.laws in
+    let x = c.args.x.now in
+    let y = c.args.y.now in
+    let w = length x in
+    let some = width_pos w (width_of _ x c.wires.ensures.value c.wires.ensures.width) in
+    let same = sym c.requires.same in
+    let q = on_two m (op_less c.args.signed) w (λ d u v. less_circuit c.args.signed w u v) x y _ _ _ (λ d xs. refl) refl
+    (λ d. carried_two m (λ u v. less_circuit c.args.signed (length u) u v) _ x _ y _ _ _ _ c.wires.ensures.value c.wires-2.ensures.value refl c.less_wires.ensures) in
+    let o = owed m g.G.Gates.stands g.G.Gates.made g.G.Gates.room law g.met.G.Gates.counts (op_less c.args.signed) w (x ++ y) _ _ _ (omega (arith, some)) (length-two x y w refl same) (Uniform-less c.args.signed w) (Counted-less c.args.signed w some) q in
+    record {
+      plays = o.plays;
+      means = means_two m g.G.Gates.stands law (op_less c.args.signed) w x y _ _ _ refl same (Uniform-less c.args.signed w) q c.args.signed c.args.signed false (λ a b. number_of (int_lt a b)) (integer-less c.args.signed w some);
+      made = o.made;
+      room = o.room;
+      width = o.width;
+      keeps = o.keeps;
+    }

@@ -1,0 +1,37 @@
+use Rattle.std.proofs.Common.{◌≡◌, ◌-◌, ◌+◌, length, arith, ap, ◌∙◌, rules, subst}
+use Rattle.gate_core.specs.Circuit.{Plays}
+use Rattle.gate_core.proofs.Playing.{Costs-room, Plays-more}
+use Rattle.word_circuits.proofs.Multiplying.{Costs-part}
+use Rattle.word_circuits.proofs.Multiplying.{Plays-multiply}
+use Rattle.word_circuits.specs.Products.{multiply_step, multiply_row}
+use Rattle.word_circuits.proofs.Multiplying.{Costs-rows, rows_left}
+use Rattle.word_circuits.proofs.products.multiply_wires.Goals as goal
+
+pub multiply_row-sum-requires : goal.multiply_row-sum-requires
+multiply_row-sum-requires g c =
+    let x = c.args.x.now in
+    let b = c.wire.result in
+    let w = length x in
+    let lp = c.part_wires-sum.ensures.len in
+    let first = Costs-room g.G.Gates.calls g.G.Gates.room g.met.G.Gates.counts.and_room _ w _ _ _ _ (Costs-part x b b w) (c.part_wires-sum.ensures.plays b) in
+    let left = Costs-room g.G.Gates.calls g.G.Gates.room g.met.G.Gates.counts.and_room _ _ _ _ _ _ (Costs-rows x c.args.y.now b c.part_wires-sum.result.items w c.rows.j (omega (arith, c.rows-test.true)) lp) (c.rows.invariant.1 b) in
+    (search rules, (omega (arith, c.rows-test.true), (ap length c.as_slice.ensures.value ∙ c.rows.invariant.0, (c.requires.fits, rows_left w c.rows.j _ _ _ first left c.requires.room (omega (arith, c.rows-test.true))))))
+
+pub rows-preserved : goal.rows-preserved
+rows-preserved g c =
+    let m = g.G.Gates.calls in
+    let x = c.args.x.now in
+    let y = c.args.y.now in (
+      c.multiply_row-sum.ensures.len,
+      λ d. Plays-more m (multiply_step (length x) x y d) c.rows.j _ _ _ _ _ _ (c.rows.invariant.1 d)
+          (subst (λ v. Plays m (multiply_row (length x) x v d (c.rows.j + 1) c.rows.sum.items) c.rows.gates c.multiply_row-sum.result.items c.multiply_row-sum.new.gates) (c.wire-in-rows.ensures d)
+          (subst (λ l. Plays m (multiply_row (length x) x c.wire-in-rows.result d (c.rows.j + 1) l) c.rows.gates c.multiply_row-sum.result.items c.multiply_row-sum.new.gates) c.as_slice.ensures.value (c.multiply_row-sum.ensures.plays d))),
+    )
+
+pub returns : goal.returns
+returns g c =
+    let done : c.rows.j ≡ length c.args.x.now - 1 = omega (arith, c.rows-test.false, c.rows.auto.j-end) in
+    record {
+      plays = λ d. Plays-multiply g.G.Gates.calls (length c.args.x.now) c.args.x.now c.args.y.now d c.wire.result c.rows.j _ _ _ _ _ (c.wire.ensures d) done (c.part_wires-sum.ensures.plays d) (c.rows.invariant.1 d);
+      len = c.rows.invariant.0;
+    }

@@ -1,0 +1,36 @@
+use Rattle.std.proofs.Common.{◌+ℤ◌, ◌++◌, length, arith, refl, sym, ap, ◌∙◌, rules}
+use Rattle.word_circuits.specs.Integers.{wrap}
+use Rattle.word_circuits.specs.Chains.{add_circuit}
+use Rattle.word_circuits.specs.Fragments.Operation.{op_add}
+use Rattle.word_circuits.proofs.Calling.{width_pos, width_most, width_of, owed, carried_two, means_two, length-two, on_two}
+use Rattle.word_circuits.proofs.Summing.{Uniform-add, Counted-add}
+use Rattle.word_circuits.proofs.Totals.{integer-add}
+use Rattle.word_circuits.proofs.sums.add.Goals as goal
+
+pub add_wires-requires : goal.add_wires-requires
+add_wires-requires g c =
+    let x = c.wires.ensures.value in
+    let y = c.wires-2.ensures.value in
+    let some = width_pos _ c.wires.ensures.width in
+    (search rules, (some, (ap length x ∙ c.requires.same ∙ ap length (sym y), (width_most _ c.wires.ensures.width, rw x c.requires.room))))
+
+pub returns : goal.returns
+returns g c =
+    let m = g.G.Gates.calls in
+    let law = g.met.G.Gates.laws in
+    let x = c.args.x.now in
+    let y = c.args.y.now in
+    let w = length x in
+    let some = width_pos w (width_of _ x c.wires.ensures.value c.wires.ensures.width) in
+    let same = sym c.requires.same in
+    let q = on_two m op_add w (λ d u v. add_circuit w u v) x y _ _ _ (λ d xs. refl) refl
+    (λ d. carried_two m (λ u v. add_circuit (length u) u v) _ x _ y _ c.of_array.result _ _ c.wires.ensures.value c.wires-2.ensures.value c.of_array.ensures c.add_wires.ensures.plays) in
+    let o = owed m g.G.Gates.stands g.G.Gates.made g.G.Gates.room law g.met.G.Gates.counts op_add w (x ++ y) _ _ _ (omega (arith, some)) (length-two x y w refl same) (Uniform-add w) (Counted-add w some) q in
+    record {
+      plays = o.plays;
+      means = λ signed. means_two m g.G.Gates.stands law op_add w x y _ _ _ refl same (Uniform-add w) q signed signed signed (λ a b. wrap signed w (a +ℤ b)) (integer-add signed w some);
+      made = o.made;
+      room = o.room;
+      width = o.width;
+      keeps = o.keeps;
+    }

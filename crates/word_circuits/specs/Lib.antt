@@ -1,0 +1,7 @@
+pub mod Integers
+pub mod Widths
+pub mod Chains
+pub mod Choices
+pub mod Products
+pub mod Divisions
+pub mod Fragments

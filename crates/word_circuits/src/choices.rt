@@ -1,0 +1,174 @@
+//! Operations bit by bit, and the choice between two words.
+
+ghost use Rattle.std.specs.Prelude.{◌≡◌, ◌<◌, ◌≤◌, ◌+◌, ◌++◌, ◌∷◌, length, ℤ, ◌-ℤ◌, negsuc, bit_and, bit_or, bit_xor, Bool, if◌then◌else◌};
+ghost use Rattle.gate_core.specs.Circuit.{Plays};
+ghost use Rattle.gate_core.specs.GateList.{PlaysGates};
+ghost use Rattle.gate_core.specs.Laws.{Rises};
+ghost use Rattle.word_circuits.specs.Choices.{meet_circuit, either_bit, either_circuit, differ_circuit, choose_bit, choose};
+ghost use Rattle.word_circuits.specs.Integers.{Means, wrap, combine};
+ghost use Rattle.word_circuits.specs.Fragments.{fragment, ands_of};
+ghost use Rattle.word_circuits.specs.Fragments.Operation.{op_meet, op_either, op_differ, op_flip, op_select};
+ghost use Rattle.word_circuits.specs.declared.operation.WordOp.TheVariants.{Meet, Either, Differ, Flip, Select};
+
+use crate::Word;
+use crate::carries::flip_wires;
+use crate::wires::wire;
+use arrayvec::ArrayVec;
+use gate_core::Gates;
+
+/// The bits that are 1 in both words.
+pub fn meet<G: Gates>(gates: &mut G, x: &Word<G::Wire>, y: &Word<G::Wire>) -> Word<G::Wire>
+    requires same { length x.now ≡ length y.now }
+    requires room { ands_of Meet (length x.now) ≤ G.room gates.old }
+    ensures plays { PlaysGates G.calls (fragment op_meet (length x.now)) (x.now ++ y.now) gates.old result gates.new }
+    ensures means { (signed : Bool) (a b : ℤ) → Means (G.stands gates.old) signed x.now a → Means (G.stands gates.old) signed y.now b → Means (G.stands gates.new) signed result (combine signed (length x.now) bit_and a b) }
+    ensures made { Rises (G.made gates.old) (ands_of Meet (length x.now)) (G.made gates.new) }
+    ensures room { G.room gates.old ≤ G.room gates.new + ands_of Meet (length x.now) }
+    ensures width { length result ≡ length x.now }
+    ensures keeps { (w : G.Wire) (b : Bool) → G.stands gates.old w b → G.stands gates.new w b }
+{
+    Word::of_array(meet_wires(gates, x.wires(), y.wires()))
+}
+
+/// The bits that are 1 in either word.
+pub fn either<G: Gates>(gates: &mut G, x: &Word<G::Wire>, y: &Word<G::Wire>) -> Word<G::Wire>
+    requires same { length x.now ≡ length y.now }
+    requires room { ands_of Either (length x.now) ≤ G.room gates.old }
+    ensures plays { PlaysGates G.calls (fragment op_either (length x.now)) (x.now ++ y.now) gates.old result gates.new }
+    ensures means { (signed : Bool) (a b : ℤ) → Means (G.stands gates.old) signed x.now a → Means (G.stands gates.old) signed y.now b → Means (G.stands gates.new) signed result (combine signed (length x.now) bit_or a b) }
+    ensures made { Rises (G.made gates.old) (ands_of Either (length x.now)) (G.made gates.new) }
+    ensures room { G.room gates.old ≤ G.room gates.new + ands_of Either (length x.now) }
+    ensures width { length result ≡ length x.now }
+    ensures keeps { (w : G.Wire) (b : Bool) → G.stands gates.old w b → G.stands gates.new w b }
+{
+    Word::of_array(either_wires(gates, x.wires(), y.wires()))
+}
+
+/// The bits in which two words differ.
+pub fn differ<G: Gates>(gates: &mut G, x: &Word<G::Wire>, y: &Word<G::Wire>) -> Word<G::Wire>
+    requires same { length x.now ≡ length y.now }
+    requires room { ands_of Differ (length x.now) ≤ G.room gates.old }
+    ensures plays { PlaysGates G.calls (fragment op_differ (length x.now)) (x.now ++ y.now) gates.old result gates.new }
+    ensures means { (signed : Bool) (a b : ℤ) → Means (G.stands gates.old) signed x.now a → Means (G.stands gates.old) signed y.now b → Means (G.stands gates.new) signed result (combine signed (length x.now) bit_xor a b) }
+    ensures made { Rises (G.made gates.old) (ands_of Differ (length x.now)) (G.made gates.new) }
+    ensures room { G.room gates.old ≤ G.room gates.new + ands_of Differ (length x.now) }
+    ensures width { length result ≡ length x.now }
+    ensures keeps { (w : G.Wire) (b : Bool) → G.stands gates.old w b → G.stands gates.new w b }
+{
+    Word::of_array(differ_wires(gates, x.wires(), y.wires()))
+}
+
+/// Every bit turned: -1 less the word.
+pub fn flip<G: Gates>(gates: &mut G, x: &Word<G::Wire>) -> Word<G::Wire>
+    requires { ands_of Flip (length x.now) ≤ G.room gates.old }
+    ensures plays { PlaysGates G.calls (fragment op_flip (length x.now)) x.now gates.old result gates.new }
+    ensures means { (signed : Bool) (a : ℤ) → Means (G.stands gates.old) signed x.now a → Means (G.stands gates.new) signed result (wrap signed (length x.now) (negsuc 0 -ℤ a)) }
+    ensures made { Rises (G.made gates.old) (ands_of Flip (length x.now)) (G.made gates.new) }
+    ensures room { G.room gates.old ≤ G.room gates.new + ands_of Flip (length x.now) }
+    ensures width { length result ≡ length x.now }
+    ensures keeps { (w : G.Wire) (b : Bool) → G.stands gates.old w b → G.stands gates.new w b }
+{
+    Word::of_array(flip_wires(gates, x.wires(), x.width()))
+}
+
+/// The word `new` where the wire e stands for 1, else `old`.
+pub fn select<G: Gates>(
+    gates: &mut G,
+    e: G::Wire,
+    new: &Word<G::Wire>,
+    old: &Word<G::Wire>,
+) -> Word<G::Wire>
+    requires same { length new.now ≡ length old.now }
+    requires room { ands_of Select (length new.now) ≤ G.room gates.old }
+    ensures plays { PlaysGates G.calls (fragment op_select (length new.now)) (e ∷ (new.now ++ old.now)) gates.old result gates.new }
+    ensures means { (signed chosen : Bool) (a b : ℤ) → G.stands gates.old e chosen → Means (G.stands gates.old) signed new.now a → Means (G.stands gates.old) signed old.now b → Means (G.stands gates.new) signed result (if chosen then a else b) }
+    ensures made { Rises (G.made gates.old) (ands_of Select (length new.now)) (G.made gates.new) }
+    ensures room { G.room gates.old ≤ G.room gates.new + ands_of Select (length new.now) }
+    ensures width { length result ≡ length new.now }
+    ensures keeps { (w : G.Wire) (b : Bool) → G.stands gates.old w b → G.stands gates.new w b }
+{
+    let last = old.wires();
+    Word::of_array(choose_wires(gates, e, new.wires(), last, last, old.width()))
+}
+
+// The wires of `kept`, turned where e is true and x and y differ.
+pub(crate) fn choose_wires<G: Gates>(
+    gates: &mut G,
+    e: G::Wire,
+    x: &[G::Wire],
+    y: &[G::Wire],
+    kept: &[G::Wire],
+    count: usize,
+) -> ArrayVec<G::Wire, 64>
+    requires x { count ≤ length x.now }
+    requires y { count ≤ length y.now }
+    requires kept { count ≤ length kept.now }
+    requires fits { count ≤ 64 }
+    requires room { count ≤ G.room gates.old }
+    ensures plays { (d : G.Wire) → Plays G.calls (choose e x.now y.now kept.now d count) gates.old result.items gates.new }
+    ensures len { length result.items ≡ count }
+{
+    let mut wires = ArrayVec::new();
+    'places: for i in 0..count {
+        wires.push(choose_bit(gates, e, wire(x, i), wire(y, i), wire(kept, i)));
+    }
+    wires
+}
+
+fn choose_bit<G: Gates>(gates: &mut G, e: G::Wire, x: G::Wire, y: G::Wire, kept: G::Wire) -> G::Wire
+    requires { 0 < G.room gates.old }
+    ensures { Plays G.calls (choose_bit e x y kept) gates.old result gates.new }
+{
+    let apart = gates.xor(x, y);
+    let turn = gates.and(e, apart);
+    gates.xor(kept, turn)
+}
+
+fn meet_wires<G: Gates>(gates: &mut G, x: &[G::Wire], y: &[G::Wire]) -> ArrayVec<G::Wire, 64>
+    requires same { length x.now ≡ length y.now }
+    requires fits { length x.now ≤ 64 }
+    requires room { length x.now ≤ G.room gates.old }
+    ensures plays { (d : G.Wire) → Plays G.calls (meet_circuit (length x.now) x.now y.now d) gates.old result.items gates.new }
+    ensures len { length result.items ≡ length x.now }
+{
+    let mut wires = ArrayVec::new();
+    'places: for i in 0..x.len() {
+        wires.push(gates.and(wire(x, i), wire(y, i)));
+    }
+    wires
+}
+
+fn either_wires<G: Gates>(gates: &mut G, x: &[G::Wire], y: &[G::Wire]) -> ArrayVec<G::Wire, 64>
+    requires same { length x.now ≡ length y.now }
+    requires fits { length x.now ≤ 64 }
+    requires room { length x.now ≤ G.room gates.old }
+    ensures plays { (d : G.Wire) → Plays G.calls (either_circuit (length x.now) x.now y.now d) gates.old result.items gates.new }
+    ensures len { length result.items ≡ length x.now }
+{
+    let mut wires = ArrayVec::new();
+    'places: for i in 0..x.len() {
+        wires.push(either_bit(gates, wire(x, i), wire(y, i)));
+    }
+    wires
+}
+
+fn either_bit<G: Gates>(gates: &mut G, x: G::Wire, y: G::Wire) -> G::Wire
+    requires { 0 < G.room gates.old }
+    ensures { Plays G.calls (either_bit x y) gates.old result gates.new }
+{
+    let neither = gates.and(gates.not(x), gates.not(y));
+    gates.not(neither)
+}
+
+fn differ_wires<G: Gates>(gates: &G, x: &[G::Wire], y: &[G::Wire]) -> ArrayVec<G::Wire, 64>
+    requires same { length x.now ≡ length y.now }
+    requires fits { length x.now ≤ 64 }
+    ensures plays { (d : G.Wire) → Plays G.calls (differ_circuit (length x.now) x.now y.now d) gates.now result.items gates.now }
+    ensures len { length result.items ≡ length x.now }
+{
+    let mut wires = ArrayVec::new();
+    'places: for i in 0..x.len() {
+        wires.push(gates.xor(wire(x, i), wire(y, i)));
+    }
+    wires
+}

@@ -1,0 +1,32 @@
+//! Words of wires, and the integer operations on them, for every backend.
+//!
+//! A `Word` has 1, 8, 16, 32 or 64 wires, the lowest first. Each operation makes its gates over any
+//! `Gates`, in an order that is fixed by its definition (`specs/Fragments.antt`), and its contract says
+//! four things: the backend's state and the wires are those of its own calls played in that order; where
+//! the operands' wires stand for integers, the answer's wires stand for the integer of the operation; the
+//! ANDs are exactly as many as `ands` tells; and wires that stood for a bit before stand for it after.
+//! No call takes memory.
+#![tactic(auto)]
+
+mod carries;
+mod choices;
+mod comparisons;
+mod divisions;
+mod operation;
+mod products;
+mod shifts;
+mod sums;
+mod wires;
+mod word;
+
+pub use choices::{differ, either, flip, meet, select};
+pub use comparisons::{equal, less, to_bool};
+pub use divisions::{quotient, remainder};
+pub use operation::{WordOp, ands};
+pub use products::multiply;
+pub use shifts::{resize, shift_known, shift_word};
+pub use sums::{add, negate, subtract};
+pub use word::Word;
+
+#[cfg(test)]
+mod tests;
