@@ -1,16 +1,17 @@
 -- Where all files have their form and nothing fails, no other status has a cause.
-use Rattle.std.proofs.Common.{ℕ, ◌+◌, ◌≡◌, ◌<◌, ◌≤◌, List, [], ◌∷◌, length, get_or, Option, Some, None, Result, Ok, Err, refl, sym, ap, ◌∙◌, subst, arith, inl, inr, ℤ}
+use Rattle.std.proofs.Common.{ℕ, ◌≡◌, List, [], get_or, Some, None, sym, ap, ◌∙◌, subst, inl, inr}
 use Rattle.std.specs.Prelude.{◌⊎◌, IfSome}
 use Rattle.std.specs.Option.{unwrap_or}
 use Rattle.std.proofs.lemmas.Option.{none-some}
 use Rattle.oc_outside.specs.Counts.{Rose}
-use Rattle.oc_tree.specs.declared.program.Typed.{Typed}
 use Rattle.first_form.specs.First.{First as Reads}
 use Rattle.oblivc_main.specs.Inputs.{IsInput}
-use Rattle.oblivc_main.specs.Reading.{Told, Holds, IsAbsent, Unreadable, Refuses, HasNoWord}
-use Rattle.oblivc_main.specs.Words.{IsCommand, IsClear, Usage, clear_words}
-use Rattle.oblivc_main.specs.Endings.{Files, Output, IsWrong, IsUnreadable, name_of}
-use Rattle.oblivc_main.specs.Statuses.{Call, files_of, OfCommand, HasForms, IsFaultless, Completes, Answered, done, refused, usage, unread, wrong_input, without_memory, unwritten, SaysFile}
+use Rattle.oblivc_main.specs.Reading.{Told, Holds, IsAbsent, Unreadable, Refuses}
+use Rattle.oblivc_main.specs.Words.{IsClear, clear_words}
+use Rattle.oblivc_main.specs.DealWords.{IsDealCommand}
+use Rattle.oblivc_main.proofs.Causes.{not_both}
+use Rattle.oblivc_main.specs.Endings.{Files, IsWrong, IsUnreadable}
+use Rattle.oblivc_main.specs.Statuses.{Call, files_of, OfCommand, HasForms, IsFaultless, Completes, Answered, done, refused, usage, unread, wrong_input, without_memory, unwritten, OfDeal, SaysFile, SaysUnwritable}
 use Rattle.oblivc_main.specs.declared.stop.Which.{Which}
 use Rattle.oblivc_main.specs.declared.stop.Which.TheVariants.{Source, First, Second}
 
@@ -51,18 +52,44 @@ moved c P s f d s' f' d' e e' p =
     let three : d ≡ d' = ap (λ ws. get_or ws 5 []) same in
     subst (λ x. P (files_of c s' f' x)) three (subst (λ x. P (files_of c s' x d)) two (subst (λ x. P (files_of c x f d)) one p))
 
+-- a file that `deal` can't write had a fault
+not_unwritable : (c : Call) → OfDeal c (SaysUnwritable c.err) → (Rose c.faults_before c.faults_after → ⊥) → ⊥
+not_unwritable c o faultless = let said = o.2 in let cause = said.1 in faultless cause.rose
+
 module _ (c : Call) (q : OfCommand c HasForms) where
   forms : (s f d : List ℕ) → IsClear c.words s f d → HasForms (files_of c s f d)
   forms s f d e = moved c HasForms q.0 q.1 q.2 s f d q.3 e q.4
 
+  all_read : OfCommand c (λ f. SaysFile c.err f) ⊎ OfDeal c (SaysUnwritable c.err) → (Rose c.faults_before c.faults_after → ⊥) → ⊥
+  all_read (inl o) faultless = let said = o.4 in not_unread (files_of c o.0 o.1 o.2) (forms o.0 o.1 o.2 o.3) said.0 faultless said.1
+  all_read (inr o) faultless = not_unwritable c o faultless
+
   only : (status : ℕ) → Answered c status → IsFaultless c → (status ≡ 0) ⊎ (status ≡ 10)
   only status (done e d) l = inl e
   only status (refused e r) l = let o = r.0 in absurd (not_refused (files_of c o.0 o.1 o.2) (forms o.0 o.1 o.2 o.3) o.4)
-  only status (usage e u) l = let w = u.1 in absurd (w.none (q.0, q.1, q.2, q.3))
-  only status (unread e u) l = let o = u.0 in let said = o.4 in absurd (not_unread (files_of c o.0 o.1 o.2) (forms o.0 o.1 o.2 o.3) said.0 l.0 said.1)
+  only status (usage e u) l = let w = u.1 in absurd (w.none (inl (q.0, q.1, q.2, q.3)))
+  only status (unread e u) l = absurd (all_read u.0 l.0)
   only status (wrong_input e w) l = let o = w.0 in let wrong = o.4 in absurd (not_wrong (files_of c o.0 o.1 o.2) (forms o.0 o.1 o.2 o.3) wrong.0 wrong.1)
   only status (without_memory e m) l = inr e
   only status (unwritten e u) l = absurd (l.1 u.1)
 
+module _ (c : Call) (q : IsDealCommand c.words) where
+  no_clear : (f : Files → Type 0) → OfCommand c f → ⊥
+  no_clear f o = not_both c.words (o.0, o.1, o.2, o.3) q
+
+  all_written : OfCommand c (λ f. SaysFile c.err f) ⊎ OfDeal c (SaysUnwritable c.err) → (Rose c.faults_before c.faults_after → ⊥) → ⊥
+  all_written (inl o) faultless = no_clear (λ f. SaysFile c.err f) o
+  all_written (inr o) faultless = not_unwritable c o faultless
+
+  dealt : (status : ℕ) → Answered c status → IsFaultless c → (status ≡ 0) ⊎ (status ≡ 10)
+  dealt status (done e d) l = inl e
+  dealt status (refused e r) l = absurd (no_clear (λ f. Refuses f.told f.source) r.0)
+  dealt status (usage e u) l = let w = u.1 in absurd (w.none (inr q))
+  dealt status (unread e u) l = absurd (all_written u.0 l.0)
+  dealt status (wrong_input e w) l = absurd (no_clear (λ f. (which : Which) × IsWrong f which) w.0)
+  dealt status (without_memory e m) l = inr e
+  dealt status (unwritten e u) l = absurd (l.1 u.1)
+
 pub completes : (c : Call) (status : ℕ) → Answered c status → Completes c status
-completes c status a q l = only c q status a l
+completes c status a (inl q) l = only c q status a l
+completes c status a (inr q) l = dealt c q status a l

@@ -1,10 +1,10 @@
 -- Words that fit at their places are those that a command begins with.
-use Rattle.std.proofs.Common.{ℕ, zero, suc, ◌+◌, ◌-◌, ◌≡◌, ◌<◌, ◌≤◌, List, [], ◌∷◌, ◌++◌, length, take, map, get_or, Bool, true, false, nat_eq, refl, sym, ap, ◌∙◌, subst, arith, append-nil, length-append, add-one}
+use Rattle.std.proofs.Common.{ℕ, zero, suc, ◌+◌, ◌≡◌, ◌<◌, ◌≤◌, List, [], ◌∷◌, ◌++◌, length, take, get_or, Bool, true, false, nat_eq, refl, sym, ap, ◌∙◌, arith, append-nil, length-append, add-one}
 use Rattle.std.specs.Prelude.{codes, ◌&&◌, String, string_bytes}
 use Rattle.std.proofs.lemmas.Bool.Decides.{nat_tests}
 use Rattle.std.proofs.lemmas.Bool.{false≢true}
 use Rattle.first_form.specs.Items.{same_bytes}
-use Rattle.oblivc_main.specs.Words.{IsClear, IsCommand, BeginsCommand, Usage, clear_words, texts}
+use Rattle.oblivc_main.specs.Words.{Begins, IsClearCommand, UsageOf, clear_words, texts}
 use Rattle.oblivc_main.specs.Fitting.{fits_at, all_fit}
 
 both_left : (a b : Bool) → (a && b) ≡ true → a ≡ true
@@ -32,7 +32,7 @@ module _ (n : ℕ) (w : List ℕ) (ws : List (List ℕ)) (h : all_fit n (w ∷ w
   tail_fits = both_right (fits_at n w) (all_fit (suc n) ws) h
 
 -- words that fit are the front of a command
-pub begins : (ws : List (List ℕ)) → all_fit 0 ws ≡ true → BeginsCommand ws
+pub begins : (ws : List (List ℕ)) → all_fit 0 ws ≡ true → Begins IsClearCommand ws
 begins [] h = (clear_words [] [] [], ([], [], [], refl))
 begins (a ∷ []) h =
     let p = same_eq a (codes "clear") (head_fits 0 a [] h) in
@@ -57,7 +57,7 @@ begins (a ∷ b ∷ c ∷ d ∷ e ∷ ws) h =
     let r = same_eq e (codes "--input2") (head_fits 4 e ws j) in
     last a b c d e ws p q r (tail_fits 4 e ws j)
   where
-    last : (a b c d e : List ℕ) (ws : List (List ℕ)) → a ≡ codes "clear" → c ≡ codes "--input1" → e ≡ codes "--input2" → all_fit 5 ws ≡ true → BeginsCommand (a ∷ b ∷ c ∷ d ∷ e ∷ ws)
+    last : (a b c d e : List ℕ) (ws : List (List ℕ)) → a ≡ codes "clear" → c ≡ codes "--input1" → e ≡ codes "--input2" → all_fit 5 ws ≡ true → Begins IsClearCommand (a ∷ b ∷ c ∷ d ∷ e ∷ ws)
     last a b c d e [] p q r h = ([] ∷ [], (b, d, [], rw (p, q, r) refl))
     last a b c d e (f ∷ []) p q r h = ([], (b, d, f, rw (p, q, r) refl))
     last a b c d e (f ∷ x ∷ xs) p q r h = absurd (false≢true (head_fits 6 x xs (tail_fits 5 f (x ∷ xs) h)))
@@ -67,7 +67,7 @@ nothing [] h = refl
 nothing (x ∷ xs) h = absurd (omega arith)
 
 -- a row of six words that fit is a command
-pub whole : (ws : List (List ℕ)) → all_fit 0 ws ≡ true → 6 ≤ length ws → IsCommand ws
+pub whole : (ws : List (List ℕ)) → all_fit 0 ws ≡ true → 6 ≤ length ws → IsClearCommand ws
 whole ws h le =
     let b = begins ws h in
     let all : length (ws ++ b.0) ≡ 6 = ap length b.1.3 in
@@ -82,7 +82,7 @@ front_fits n (x ∷ xs) ys h =
     rw (p, q) refl
 
 -- the front of a command fits
-pub begun_fits : (ws : List (List ℕ)) → BeginsCommand ws → all_fit 0 ws ≡ true
+pub begun_fits : (ws : List (List ℕ)) → Begins IsClearCommand ws → all_fit 0 ws ≡ true
 begun_fits ws b = front_fits 0 ws b.0 (ap (all_fit 0) b.1.3)
 
 texts_take : {Y : Type 0} (words : List (String Y)) (k : ℕ) → texts (take k words) ≡ take k (texts words)
@@ -108,7 +108,7 @@ take_front (x ∷ xs) zero = (x ∷ xs, refl)
 take_front (x ∷ xs) (suc k) = let r = take_front xs k in (r.0, ap (λ ys. x ∷ ys) r.1)
 
 -- all of a command fits, and each front of it
-command_fits : (ws : List (List ℕ)) (k : ℕ) → IsCommand ws → all_fit 0 (take k ws) ≡ true
+command_fits : (ws : List (List ℕ)) (k : ℕ) → IsClearCommand ws → all_fit 0 (take k ws) ≡ true
 command_fits ws k c = let f = take_front ws k in front_fits 0 (take k ws) f.0 (ap (all_fit 0) (f.1 ∙ c.3))
 
 length_texts : {Y : Type 0} (words : List (String Y)) → length (texts words) ≡ length words
@@ -116,7 +116,7 @@ length_texts [] = refl
 length_texts (w ∷ ws) = ap suc (length_texts ws)
 
 -- the first word that doesn't fit
-pub fault_at : {Y : Type 0} (words : List (String Y)) (i : ℕ) (w : String Y) → all_fit 0 (texts (take i words)) ≡ true → i < length words → w ≡ get_or words i w → fits_at i (string_bytes w) ≡ false → Usage (texts words) i
+pub fault_at : {Y : Type 0} (words : List (String Y)) (i : ℕ) (w : String Y) → all_fit 0 (texts (take i words)) ≡ true → i < length words → w ≡ get_or words i w → fits_at i (string_bytes w) ≡ false → UsageOf IsClearCommand (texts words) i
 fault_at words i w h lt is f =
     let front : all_fit 0 (take i (texts words)) ≡ true = ap (all_fit 0) (sym (texts_take words i)) ∙ h in
     let misfit : all_fit 0 (take (suc i) (texts words)) ≡ true → ⊥ = λ (g : all_fit 0 (take (suc i) (texts words)) ≡ true). false≢true (sym f ∙ fits_in words 0 i i w (omega arith) lt is g) in
@@ -128,7 +128,7 @@ fault_at words i w h lt is f =
     }
 
 -- all fit, and more are wanted
-pub wants_more : {Y : Type 0} (words : List (String Y)) → all_fit 0 (texts words) ≡ true → length words < 6 → Usage (texts words) (length words)
+pub wants_more : {Y : Type 0} (words : List (String Y)) → all_fit 0 (texts words) ≡ true → length words < 6 → UsageOf IsClearCommand (texts words) (length words)
 wants_more words h lt = record {
   none = λ c. let six : length (texts words) ≡ 6 = ap length c.3 in absurd (omega (arith, six, length_texts words));
   within = omega (arith, length_texts words);
@@ -136,5 +136,5 @@ wants_more words h lt = record {
   fault = λ l b. absurd (omega (arith, l, length_texts words));
 }
 
-pub is_command : {Y : Type 0} (words : List (String Y)) → all_fit 0 (texts words) ≡ true → 6 ≤ length words → IsCommand (texts words)
+pub is_command : {Y : Type 0} (words : List (String Y)) → all_fit 0 (texts words) ≡ true → 6 ≤ length words → IsClearCommand (texts words)
 is_command words h le = whole (texts words) h (omega (arith, length_texts words))

@@ -5,3 +5,5 @@ pub mod Stages
 pub mod Files
 pub mod Causes
 pub mod Completing
+pub mod DealFiles
+pub mod DealOptions

@@ -1,8 +1,11 @@
+pub mod DealWords
+pub mod DealGiven
 pub mod Words
 pub mod Fitting
 pub mod Inputs
 pub mod InputParts
 pub mod Reading
 pub mod Endings
+pub mod DealEndings
 pub mod Lines
 pub mod Statuses

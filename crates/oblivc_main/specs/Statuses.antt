@@ -1,5 +1,5 @@
 -- What the program answers: a status, with its cause, what was printed, and the line that goes to the error stream.
-use Rattle.std.specs.Prelude.{ℕ, ◌+◌, ◌≡◌, ◌≤◌, List, Option, Some, ◌⊎◌, ℤ}
+use Rattle.std.specs.Prelude.{ℕ, ◌≡◌, List, Option, Some, Err, ◌⊎◌, ℤ}
 use Rattle.oc_outside.specs.Counts.{Rose}
 use Rattle.oc_outside.specs.Told.{appended}
 use Rattle.oc_tree.specs.declared.program.Typed.{Typed}
@@ -7,17 +7,23 @@ use Rattle.first_form.specs.First.{First as Reads}
 use Rattle.oblivc_main.specs.Inputs.{IsInput}
 use Rattle.oblivc_main.specs.Reading.{Told, Refuses}
 use Rattle.oblivc_main.specs.Words.{IsClear, Usage, Breaks}
+use Rattle.oblivc_main.specs.DealWords.{Deal, IsDeal, IsDealCommand}
+use Rattle.oblivc_main.specs.DealEndings.{Writing, HoldsBoth, DealEnds, IsUnwritable, Makes, file_name}
+use Rattle.oblivc_main.specs.declared.deal.DealFile.{DealFile}
+use Rattle.oblivc_main.specs.declared.deal.DealStop.{DealStop}
+use Rattle.oblivc_main.specs.declared.deal.DealStop.TheVariants.{Unwritten as DealUnwritten, NoMemory as DealNoMemory}
 use Rattle.oblivc_main.specs.Lines.{usage_line, refused_line, file_line, input_line, output_line, memory_line}
 use Rattle.oblivc_main.specs.Endings.{Files, Output, PrintsAll, PrintsNothing, PrintsFront, IsUnreadable, IsWrong, named, name_of}
 use Rattle.oblivc_main.specs.declared.stop.Stop.{Stop}
 use Rattle.oblivc_main.specs.declared.stop.Stop.TheVariants.{Refused, Unread, WrongInput, Unwritten, NoMemory}
 use Rattle.oblivc_main.specs.declared.stop.Which.{Which}
 
--- a call of the program: its words, what the vault tells of each name, the vault's faults before and after and the name
--- that failed last, the output, and the error stream
+-- a call of the program: its words, what the vault tells of each name before and after, the vault's faults before and
+-- after and the name that failed last, the output, and the error stream
 pub record Call : Type 0 where
   pub words : List (List ℕ)
   pub told : Told
+  pub told_after : Told
   pub faults_before : ℕ
   pub faults_after : ℕ
   pub failed : Option (List ℕ)
@@ -32,6 +38,14 @@ files_of c source first second = record { told = c.told; faults_before = c.fault
 abbrev pub OfCommand : Call → (Files → Type 0) → Type 0
 OfCommand c fact = (source : List ℕ) × (first : List ℕ) × (second : List ℕ) × IsClear c.words source first second × fact (files_of c source first second)
 
+-- what a call wrote to files
+abbrev pub writing_of : Call → Writing
+writing_of c = record { before = c.told; after = c.told_after; faults_before = c.faults_before; faults_after = c.faults_after; failed = c.failed }
+
+-- a fact of what was written and asked for, where the words are `deal`
+abbrev pub OfDeal : Call → (Writing → Deal → Type 0) → Type 0
+OfDeal c fact = (d : Deal) × IsDeal c.words d × fact (writing_of c) d
+
 -- the line was appended, unless the faults rose
 abbrev pub Says : Output → List ℕ → Type 0
 Says e line = (Rose e.faults_before e.faults_after → ⊥) → e.after ≡ appended line e.before
@@ -40,9 +54,13 @@ Says e line = (Rose e.faults_before e.faults_after → ⊥) → e.after ≡ appe
 abbrev pub SaysFile : Output → Files → Type 0
 SaysFile e f = (which : Which) × IsUnreadable f which × Says e (file_line (name_of f which))
 
+-- a file can't be written: its name is on the line
+abbrev pub SaysUnwritable : Output → Writing → Deal → Type 0
+SaysUnwritable e w d = (file : DealFile) × IsUnwritable w d file × Says e (file_line (file_name d file))
+
 -- the cause of each status, and what was written
 abbrev pub IsDone : Call → Type 0
-IsDone c = OfCommand c (λ f. PrintsAll f c.out) × PrintsNothing c.err
+IsDone c = (OfCommand c (λ f. PrintsAll f c.out) ⊎ (OfDeal c HoldsBoth × PrintsNothing c.out)) × PrintsNothing c.err
 
 abbrev pub IsRefused : Call → Type 0
 IsRefused c = OfCommand c (λ f. Refuses f.told f.source) × PrintsNothing c.out × Says c.err refused_line
@@ -51,7 +69,7 @@ abbrev pub IsUsage : Call → Type 0
 IsUsage c = (k : ℕ) × Usage c.words k × PrintsNothing c.out × Says c.err (usage_line k)
 
 abbrev pub IsUnread : Call → Type 0
-IsUnread c = OfCommand c (λ f. SaysFile c.err f) × PrintsNothing c.out
+IsUnread c = (OfCommand c (λ f. SaysFile c.err f) ⊎ OfDeal c (SaysUnwritable c.err)) × PrintsNothing c.out
 
 abbrev pub IsWrongInput : Call → Type 0
 IsWrongInput c = OfCommand c (λ f. (which : Which) × IsWrong f which) × PrintsNothing c.out × Says c.err input_line
@@ -91,9 +109,14 @@ pub record HasForms (f : Files) : Type 0 where
   pub second_word : ℤ
   pub second_form : IsInput second second_word
 
--- where all files have their form and nothing fails, the answer is 0, or want of memory
+-- where the words are a command, all its files that are read have their form and nothing fails, the answer is 0, or want
+-- of memory
 abbrev pub Completes : Call → ℕ → Type 0
-Completes c status = OfCommand c HasForms → IsFaultless c → (status ≡ 0) ⊎ (status ≡ 10)
+Completes c status = OfCommand c HasForms ⊎ IsDealCommand c.words → IsFaultless c → (status ≡ 0) ⊎ (status ≡ 10)
+
+-- what the vault tells stays, but of the files that the words ask to make
+abbrev pub Keeps : Call → Type 0
+Keeps c = (name : List ℕ) → (Makes c.words name → ⊥) → c.told_after name ≡ c.told name
 
 -- the status of a stop, and its line
 abbrev pub status_of : Stop → ℕ
@@ -110,14 +133,29 @@ line_of source first second (WrongInput which) = input_line
 line_of source first second Unwritten = output_line
 line_of source first second NoMemory = memory_line
 
+-- the same of `deal`
+abbrev pub deal_status_of : DealStop → ℕ
+deal_status_of (DealUnwritten file) = 5
+deal_status_of DealNoMemory = 10
+
+abbrev pub deal_line_of : Deal → DealStop → List ℕ
+deal_line_of d (DealUnwritten file) = file_line (file_name d file)
+deal_line_of d DealNoMemory = memory_line
+
 -- what saying a line answers: this status, where the line was appended or the faults rose, or want of memory
 abbrev pub Said : Output → List ℕ → ℕ → ℕ → Type 0
 Said e line status result = ((result ≡ status) × Says e line) ⊎ (result ≡ 10)
 
--- words before one that isn't text: the line was said, with its number
+-- what `deal` answers: 0 where both files were written, else the status of a stop that has its cause
+abbrev pub DealAnswered : Writing → Output → Deal → ℕ → Type 0
+DealAnswered w e d status =
+    ((status ≡ 0) × HoldsBoth w d × PrintsNothing e)
+    ⊎ ((stop : DealStop) × DealEnds w d (Err stop) × Said e (deal_line_of d stop) (deal_status_of stop) status)
+
+-- words before one that isn't text: the line was said, with its number, and nothing was made
 abbrev pub IsBroken : Call → ℕ → Type 0
-IsBroken c status = (k : ℕ) × Breaks c.words k × PrintsNothing c.out × Said c.err (usage_line k) 2 status
+IsBroken c status = (k : ℕ) × Breaks c.words k × PrintsNothing c.out × Said c.err (usage_line k) 2 status × ((name : List ℕ) → c.told_after name ≡ c.told name)
 
 -- the answer for a process, whose words are told by nothing: it is that for some words
 abbrev pub Served : (List (List ℕ) → Call) → ℕ → Type 0
-Served call status = (words : List (List ℕ)) × (Answered (call words) status ⊎ IsBroken (call words) status)
+Served call status = (words : List (List ℕ)) × ((Answered (call words) status × Keeps (call words)) ⊎ IsBroken (call words) status)

@@ -86,13 +86,13 @@ pub fn serve_process<R: Env, V: Vault, D: Dialer, S: Sink, E: Sink>(
     ensures served { Served (λ words. record {
       words = words;
       told = V.contents files.old;
+      told_after = V.contents files.new;
       faults_before = V.faults files.old;
       faults_after = V.faults files.new;
       failed = V.failed files.new;
       out = record { faults_before = S.faults out.old; faults_after = S.faults out.new; before = S.written out.old; after = S.written out.new };
       err = record { faults_before = E.faults err.old; faults_after = E.faults err.new; before = E.written err.old; after = E.written err.new };
     }) result }
-    ensures contents { V.contents files.new ≡ V.contents files.old }
     ensures dialer { dialer.new ≡ dialer.old }
 {
     match read_words(alloc, env) {

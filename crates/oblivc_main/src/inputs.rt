@@ -30,7 +30,7 @@ fn without_sign(line: &[u8]) -> &[u8]
 }
 
 /// The number that decimal digits spell, where all are digits.
-fn decimal(digits: &[u8]) -> Option<u128>
+pub fn decimal(digits: &[u8]) -> Option<u128>
     requires { length digits.now ≤ 19 }
     ensures value { result ≡ decimal_of digits.now }
     ensures below { IfSome result (λ value. value < 2 ^ 127) }

@@ -6,6 +6,9 @@
 
 mod arguments;
 mod command;
+mod commands;
+mod deal;
+mod deal_words;
 mod inputs;
 mod printing;
 mod program;

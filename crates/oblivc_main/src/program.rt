@@ -1,26 +1,21 @@
 //! The whole program, over any outside.
 
-ghost use Rattle.std.specs.Prelude.{◌≡◌, ◌+◌, ◌-◌, ◌^◌, ◌<◌, ℕ, List, [], get_or, length, ◌⊎◌};
+ghost use Rattle.std.specs.Prelude.{◌≡◌, ◌-◌, ◌^◌, ◌<◌, ℕ};
 ghost use Rattle.oblivc_main.specs.Words.{texts, Breaks};
 ghost use Rattle.oblivc_main.specs.Lines.{usage_line};
-ghost use Rattle.oblivc_main.specs.Statuses.{Answered, Completes, Said};
+ghost use Rattle.oblivc_main.specs.Statuses.{Answered, Completes, Keeps, Said};
 
 use crate::command::clear;
+use crate::commands::find_misfit;
+use crate::deal::run_deal;
+use crate::deal_words::{is_deal, read_deal};
 use crate::saying::{line_for_usage, report, say_line};
-use crate::words::find_fault;
+use crate::words::{find_fault, word};
 use oc_outside::{Dialer, Sink, Vault};
 use std::alloc::Global;
 
 /// The status for words that aren't a command.
 const USAGE: u8 = 2;
-
-/// A word of the command line.
-fn word(words: &[String], at: usize) -> &str
-    requires { at < length words.now }
-    ensures { result.now ≡ get_or (texts words.now) at [] }
-{
-    words[at].as_str()
-}
 
 /// Says that words aren't a command, where the word after them isn't text: no command begins with that one,
 /// if with those before it.
@@ -32,26 +27,28 @@ pub fn refuse_words<E: Sink>(alloc: Global, words: &[String], err: &mut E) -> u8
       after = E.written err.new;
     }) (usage_line k) 2 result }
 {
-    let k = find_fault(words).unwrap_or(words.len());
+    let k = find_misfit(words).unwrap_or(words.len());
     say_line(err, line_for_usage(alloc, k), USAGE)
 }
 
 /// Does what the words of a command line ask for, and answers the status to exit with.
 ///
 /// `clear FILE --input1 F --input2 F` reads the source of that name and one word of each party, runs the
-/// program in the clear and prints to `out` what it shows. The statuses:
+/// program in the clear and prints to `out` what it shows. `deal --key K --count N --out1 F --out2 F`, its
+/// options in any order, writes the sender's half of N transfers that is dealt of the key K to the first file,
+/// and then the receiver's half to the second; it prints nothing. The statuses:
 ///
-/// - 0: all was printed, and nothing was written to `err`;
+/// - 0: all was printed or written to the files, and nothing was written to `err`;
 /// - 1: the source isn't of the first form; `err` says `refused X1 1:1`;
 /// - 2: the words aren't a command; `err` says `usage K`, with the least K such that no command begins
 ///   with the words 0 to K, or the number of words;
-/// - 5: a file is absent or reading it failed; `err` says `file NAME`;
+/// - 5: a file is absent, or reading or writing it failed; `err` says `file NAME`;
 /// - 9: an input file isn't one line of its form; `err` says `input 1`;
 /// - 10: want of memory, which may come at any point; `err` says `memory` where that can be written;
 /// - 11: writing to `out` failed; `err` says `output`.
 ///
 /// Where writing to `err` fails the status stays, and where it finds no memory the status is 10. The
-/// contents of the vault stay as they are, and the dialer isn't used.
+/// contents of the vault stay as they are, but those of the files that `deal` makes, and the dialer isn't used.
 pub fn oblivcc<V: Vault, D: Dialer, S: Sink, E: Sink>(
     alloc: Global,
     words: &[String],
@@ -64,6 +61,7 @@ pub fn oblivcc<V: Vault, D: Dialer, S: Sink, E: Sink>(
     ensures answered { Answered (record {
       words = texts words.now;
       told = V.contents files.old;
+      told_after = V.contents files.new;
       faults_before = V.faults files.old;
       faults_after = V.faults files.new;
       failed = V.failed files.new;
@@ -73,15 +71,31 @@ pub fn oblivcc<V: Vault, D: Dialer, S: Sink, E: Sink>(
     ensures completes { Completes (record {
       words = texts words.now;
       told = V.contents files.old;
+      told_after = V.contents files.new;
       faults_before = V.faults files.old;
       faults_after = V.faults files.new;
       failed = V.failed files.new;
       out = record { faults_before = S.faults out.old; faults_after = S.faults out.new; before = S.written out.old; after = S.written out.new };
       err = record { faults_before = E.faults err.old; faults_after = E.faults err.new; before = E.written err.old; after = E.written err.new };
     }) result }
-    ensures contents { V.contents files.new ≡ V.contents files.old }
+    ensures keeps { Keeps (record {
+      words = texts words.now;
+      told = V.contents files.old;
+      told_after = V.contents files.new;
+      faults_before = V.faults files.old;
+      faults_after = V.faults files.new;
+      failed = V.failed files.new;
+      out = record { faults_before = S.faults out.old; faults_after = S.faults out.new; before = S.written out.old; after = S.written out.new };
+      err = record { faults_before = E.faults err.old; faults_after = E.faults err.new; before = E.written err.old; after = E.written err.new };
+    }) }
     ensures dialer { dialer.new ≡ dialer.old }
 {
+    if is_deal(words) {
+        return match read_deal(words) {
+            Ok(asked) => run_deal(alloc, &asked, files, err),
+            Err(k) => say_line(err, line_for_usage(alloc, k), USAGE),
+        };
+    }
     if let Some(k) = find_fault(words) {
         return say_line(err, line_for_usage(alloc, k), USAGE);
     }

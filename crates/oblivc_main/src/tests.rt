@@ -1,5 +1,5 @@
 use super::*;
-use oc_outside::{MemorySink, MemoryVault, SureDialer};
+use oc_outside::{FileAnswer, MemorySink, MemoryVault, SureDialer, Vault};
 use oc_values::Items;
 use std::alloc::Global;
 use std::process::Abort;
@@ -104,6 +104,103 @@ fn words_of_no_command(rt: HostRuntime) -> Result<(), Fail> {
         let mut files = put_files(alloc, &[], SUM, b"5", b"7")?;
         expect(&rt, alloc, words, &mut files, 2, b"", line)?;
     }
+    Ok(())
+}
+
+/// The key of bytes that count from 0, in both cases of letters.
+const KEY: &str = "000102030405060708090a0b0c0d0e0f101112131415161718191A1B1C1D1E1F";
+
+#[test]
+fn words_of_no_deal(rt: HostRuntime) -> Result<(), Fail> {
+    let alloc = rt.alloc();
+    let rows: [(&[&str], &[u8]); 16] = [
+        (&["deal"], b"usage 1\n"),
+        (&["deal", "--out3"], b"usage 1\n"),
+        (&["deal", "f", "--key", KEY], b"usage 1\n"),
+        (&["deal", "--key"], b"usage 2\n"),
+        (&["deal", "--key", "00"], b"usage 2\n"),
+        (
+            &[
+                "deal",
+                "--key",
+                "g00102030405060708090a0b0c0d0e0f101112131415161718191a1b1c1d1e1f",
+            ],
+            b"usage 2\n",
+        ),
+        (&["deal", "--count", "+3"], b"usage 2\n"),
+        (&["deal", "--count", "03"], b"usage 2\n"),
+        (&["deal", "--count", ""], b"usage 2\n"),
+        (&["deal", "--count", "1048577"], b"usage 2\n"),
+        (&["deal", "--count", "10000000"], b"usage 2\n"),
+        (&["deal", "--count", "3x"], b"usage 2\n"),
+        (&["deal", "--count", "3", "--count", "3"], b"usage 3\n"),
+        (&["deal", "--out1", "--key", "--out2"], b"usage 4\n"),
+        (
+            &["deal", "--out1", "a", "--count", "1048576", "--out2", "b"],
+            b"usage 7\n",
+        ),
+        (
+            &[
+                "deal", "--key", KEY, "--count", "0", "--out1", "a", "--out2", "b", "c",
+            ],
+            b"usage 9\n",
+        ),
+    ];
+    for (words, line) in rows {
+        let mut files = MemoryVault::new(alloc, Items::new(alloc));
+        expect(&rt, alloc, words, &mut files, 2, b"", line)?;
+    }
+    Ok(())
+}
+
+// The length of a file, or none where there is no such file.
+fn size_of(alloc: Global, files: &mut MemoryVault, name: &str) -> Option<usize> {
+    match files.read_file(alloc, name, 33_554_490) {
+        FileAnswer::Bytes(bytes) => Some(bytes.len()),
+        _ => None,
+    }
+}
+
+#[test]
+fn dealt_files_are_written(rt: HostRuntime) -> Result<(), Fail> {
+    let alloc = rt.alloc();
+    let rows: [(&str, usize, usize); 4] = [
+        ("0", 57, 25),
+        ("3", 153, 74),
+        ("9", 345, 171),
+        ("32", 1_081, 541),
+    ];
+    for (count, first, second) in rows {
+        let mut files = MemoryVault::new(alloc, Items::new(alloc));
+        let words = [
+            "deal", "--out2", "two", "--count", count, "--key", KEY, "--out1", "one",
+        ];
+        expect(&rt, alloc, &words, &mut files, 0, b"", b"")?;
+        assert_eq!(rt; size_of(alloc, &mut files, "one"), Some(first));
+        assert_eq!(rt; size_of(alloc, &mut files, "two"), Some(second));
+    }
+    // Both files under one name: it holds the second half's bytes.
+    let mut same = MemoryVault::new(alloc, Items::new(alloc));
+    let words = [
+        "deal", "--key", KEY, "--count", "3", "--out1", "half", "--out2", "half",
+    ];
+    expect(&rt, alloc, &words, &mut same, 0, b"", b"")?;
+    assert_eq!(rt; size_of(alloc, &mut same, "half"), Some(74));
+    Ok(())
+}
+
+#[test]
+fn files_that_cannot_be_written(rt: HostRuntime) -> Result<(), Fail> {
+    let alloc = rt.alloc();
+    let words = [
+        "deal", "--key", KEY, "--count", "3", "--out1", "one", "--out2", "two",
+    ];
+    let mut first = MemoryVault::new(alloc, Items::from_slice(alloc, &[0])?);
+    expect(&rt, alloc, &words, &mut first, 5, b"", b"file one\n")?;
+    assert_eq!(rt; size_of(alloc, &mut first, "two"), None);
+    let mut second = MemoryVault::new(alloc, Items::from_slice(alloc, &[1])?);
+    expect(&rt, alloc, &words, &mut second, 5, b"", b"file two\n")?;
+    assert_eq!(rt; size_of(alloc, &mut second, "one"), Some(153));
     Ok(())
 }
 

@@ -1,11 +1,19 @@
 //! The words of a command line.
 
-ghost use Rattle.std.specs.Prelude.{◌≡◌, MatchOption};
-ghost use Rattle.oblivc_main.specs.Words.{IsCommand, Usage, texts};
+ghost use Rattle.std.specs.Prelude.{◌≡◌, ◌<◌, [], MatchOption, get_or, length};
+ghost use Rattle.oblivc_main.specs.Words.{IsClearCommand, UsageOf, texts};
 ghost use Rattle.oblivc_main.specs.Fitting.{fits_at};
 
 /// How many words a command has.
 const WORDS: usize = 6;
+
+/// A word of the command line.
+pub fn word(words: &[String], at: usize) -> &str
+    requires { at < length words.now }
+    ensures { result.now ≡ get_or (texts words.now) at [] }
+{
+    words[at].as_str()
+}
 
 /// Whether a word fits at its place in `clear FILE --input1 F --input2 F`, in which any word is a name.
 fn fits(at: usize, word: &str) -> bool
@@ -20,9 +28,9 @@ fn fits(at: usize, word: &str) -> bool
     }
 }
 
-/// The first word that makes the words none of the commands, or their number where more words are wanted.
+/// The first word that makes the words no `clear`, or their number where more words are wanted.
 pub fn find_fault(words: &[String]) -> Option<usize>
-    ensures { MatchOption result (IsCommand (texts words.now)) (λ k. Usage (texts words.now) k) }
+    ensures { MatchOption result (IsClearCommand (texts words.now)) (λ k. UsageOf IsClearCommand (texts words.now) k) }
 {
     for (at, word) in words.iter().enumerate() {
         if !fits(at, word.as_str()) {

@@ -1,0 +1,37 @@
+-- The two halves of dealt transfers, which a dealer makes together.
+use Rattle.std.specs.Prelude.{ℕ, ◌≡◌, ◌<◌, ◌≤◌, ◌^◌, List, length, Bool}
+use Rattle.std.specs.List.{AllByRecursion}
+use Rattle.dealt_transfer.specs.declared.half.SenderHalf.{SenderHalf}
+use Rattle.dealt_transfer.specs.declared.half.ReceiverHalf.{ReceiverHalf}
+
+-- how many transfers a half has at most
+abbrev pub most : ℕ
+most = 1048576
+
+-- a receiver's half without the fact that it has as many bits as pads
+pub record Receiver : Type 0 where
+  pub tag : List ℕ
+  pub bits : List Bool
+  pub pads : List ℕ
+
+abbrev pub receiver : ReceiverHalf → Receiver
+receiver half = record { tag = half.tag; bits = half.bits; pads = half.pads }
+
+abbrev pub IsLabel : ℕ → Type 0
+IsLabel label = label < 2 ^ 128
+
+abbrev pub IsPair : ℕ × ℕ → Type 0
+IsPair pads = IsLabel pads.0 × IsLabel pads.1
+
+-- what has a file: a tag of 16 bytes, a coin key of 32, and not too many pads, which are labels
+pub record IsSender (half : SenderHalf) : Type 0 where
+  pub tag : length half.tag ≡ 16
+  pub coin_key : length half.coin_key ≡ 32
+  pub count : length half.pads ≤ most
+  pub pads : AllByRecursion IsPair half.pads
+
+pub record IsReceiver (half : Receiver) : Type 0 where
+  pub tag : length half.tag ≡ 16
+  pub count : length half.pads ≤ most
+  pub bits : length half.bits ≡ length half.pads
+  pub pads : AllByRecursion IsLabel half.pads
