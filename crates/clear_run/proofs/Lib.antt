@@ -1,3 +1,4 @@
+pub mod Blanks
 pub mod Living
 pub mod Words
 pub mod Views

@@ -1,8 +1,8 @@
 //! The memory of a run: what is read, written, made and ended.
 
-ghost use Rattle.std.specs.Prelude.{◌≡◌, ◌+◌, ◌^◌, ◌≤◌, IfOk, false, slice_get};
+ghost use Rattle.std.specs.Prelude.{◌≡◌, ◌+◌, ◌^◌, ◌≤◌, IfOk, false, slice_get, []};
 ghost use Rattle.oc_tree.specs.Memory.{load, store, storable, put, make, living, weight, blank, blanks};
-ghost use Rattle.oc_tree.specs.Types.{leaves};
+ghost use Rattle.oc_tree.specs.Layout.{leaves};
 ghost use Rattle.oc_tree.specs.Walking.{live_limit};
 ghost use Rattle.oc_tree.specs.declared.memory.Address.TheVariants.{At};
 ghost use Rattle.clear_run.specs.Runs.{Writes, HasCellIn, zero_of, MakesBlock};
@@ -10,7 +10,7 @@ ghost use Rattle.clear_run.specs.Runs.{Writes, HasCellIn, zero_of, MakesBlock};
 use crate::machine::Fault;
 use oc_tree::{
     Address, Block, CType, Cell, CellValue, Leaf, Outcome, Row, Spot, TrapKind, fits_type,
-    same_type,
+    push_leaves, same_type,
 };
 use std::alloc::{AllocError, Global};
 
@@ -134,18 +134,18 @@ fn blank_value(leaf: &CType) -> CellValue<i128>
 
 /// The cells of a new block of this type.
 fn blank_cells<'t>(alloc: Global, ty: &'t CType) -> Result<Row<Cell<'t, i128>>, AllocError>
-    ensures { IfOk result (λ cells. cells ≡ blanks zero_of (leaves ty.now)) }
+    ensures { IfOk result (λ cells. cells ≡ blanks zero_of (leaves [] ty.now)) }
 {
+    let mut types = Row::new(alloc);
+    push_leaves(&Row::new(alloc), ty, &mut types)?;
     let mut cells = Row::new(alloc);
-    match ty {
-        CType::Nothing => {}
-        _ => {
-            let value = blank_value(ty);
-            cells.push(Cell {
-                leaf: Leaf::new(ty),
-                value,
-            })?;
-        }
+    for leaf in types.as_slice() {
+        let ty = leaf.get();
+        let value = blank_value(ty);
+        cells.push(Cell {
+            leaf: Leaf::new(ty),
+            value,
+        })?;
     }
     Ok(cells)
 }
@@ -157,7 +157,7 @@ pub fn make_block<'t>(
     spot: Spot,
     ty: &'t CType,
 ) -> Result<(), Fault>
-    ensures { MakesBlock spot (make zero_of live_limit false blocks.old (leaves ty.now)) result blocks.old blocks.new }
+    ensures { MakesBlock spot (make zero_of live_limit false blocks.old (leaves [] ty.now)) result blocks.old blocks.new }
 {
     let cells = blank_cells(alloc, ty)?;
     let block = Block::Live {

@@ -38,7 +38,7 @@ breaks_of ws n size (Some k) u = record { within = u.within; begun = u.begun; fa
 breaks_of ws n size None c = subst (Breaks ws) (sym size) (record {
   within = omega arith;
   begun = ([], (c.0, c.1, c.2, ap (λ t. t ++ []) (all_of ws) ∙ append-nil ws ∙ c.3));
-  fault = λ h. absurd (omega (arith, h));
+  fault = λ h. absurd (omega (arith, h))
 })
 
 module _ (c : Call) (source first second : List ℕ) (clear : IsClear c.words source first second) where

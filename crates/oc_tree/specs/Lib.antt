@@ -1,5 +1,8 @@
 pub mod Types
+pub mod Layout
 pub mod Memory
+pub mod Literals
+pub mod Joined
 pub mod Typing
 pub mod Domain
 pub mod Walking

@@ -1,5 +1,5 @@
 -- Block memory over any hidden content: what is read, written, made and ended, and the traps.
-use Rattle.std.specs.Prelude.{ℕ, zero, suc, ◌+◌, ◌^◌, nat_le, nat_lt, pos, List, [], ◌∷◌, ◌++◌, length, Option, Some, None, Result, Ok, Err, slice_get, Bool, true, false, ◌&&◌}
+use Rattle.std.specs.Prelude.{◌≡◌, ℕ, zero, suc, ◌+◌, ◌^◌, nat_le, nat_lt, ℤ, pos, negsuc, ◌+ℤ◌, ◌*ℤ◌, List, [], ◌∷◌, ◌++◌, length, Option, Some, None, Result, Ok, Err, slice_get, Bool, true, false, ◌&&◌}
 use Rattle.oc_values.specs.declared.integers.IntKind.{IntKind}
 use Rattle.oc_tree.specs.declared.types.CType.{CType, Int as CInt}
 use Rattle.oc_tree.specs.declared.memory.Address.{Address}
@@ -11,7 +11,10 @@ use Rattle.oc_tree.specs.declared.memory.Block.{Block}
 use Rattle.oc_tree.specs.declared.memory.Block.TheVariants.{Live, Gone}
 use Rattle.oc_tree.specs.declared.outcome.TrapKind.{TrapKind}
 use Rattle.oc_tree.specs.declared.outcome.TrapKind.TheVariants.{M1, M2, M3, M4, M5}
+use Rattle.oc_values.specs.Integers.{IsOfKind}
+use Rattle.oc_tree.specs.declared.types.CType.{Pointer' as CPointer'}
 use Rattle.oc_tree.specs.Types.{same, fits}
+use Rattle.oc_tree.specs.Layout.{repeated}
 
 -- a trap, or what follows
 abbrev pub then : {A B : Type 0} → Result A TrapKind → (A → Result B TrapKind) → Result B TrapKind
@@ -66,6 +69,48 @@ storable blocks at leaf = then (cell blocks at) (λ c. only (same true leaf c.le
 abbrev pub store : {H : Type 0} → List (Block H) → Address → CType → CellValue H → Result (List (Block H)) TrapKind
 store blocks at leaf v = then (storable blocks at leaf) (λ _. Ok (put blocks at v))
 
+abbrev pub landed : Bool → ℕ → ℕ → Result Address TrapKind
+landed true b n = Ok (At b n)
+landed false b n = Err M1
+
+-- a place in a block of so many cells, or just after them
+abbrev pub placed : ℕ → ℕ → ℤ → Result Address TrapKind
+placed b len (pos n) = landed (nat_le n len) b n
+placed b len (negsuc n) = Err M1
+
+-- the address moved by so many elements of this size
+abbrev pub offset : {H : Type 0} → List (Block H) → Address → ℤ → ℕ → Result Address TrapKind
+offset blocks Null amount size = Err M3
+offset blocks (At b i) amount size = then (live (slice_get blocks b)) (λ cells. placed b (length cells) (pos i +ℤ amount *ℤ pos size))
+
+abbrev pub next : Address → Address
+next Null = Null
+next (At b i) = At b (i + 1)
+
+-- whether these leaves are read one after the other, or the first trap
+abbrev pub loadable : {H : Type 0} → List (Block H) → Address → List CType → Result (Unit {0}) TrapKind
+loadable blocks at [] = Ok tt
+loadable blocks at (l ∷ ls) = then (load blocks at l) (λ _. loadable blocks (next at) ls)
+
+-- whether these leaves are written one after the other, or the first trap
+abbrev pub all_storable : {H : Type 0} → List (Block H) → Address → List CType → Result (Unit {0}) TrapKind
+all_storable blocks at [] = Ok tt
+all_storable blocks at (l ∷ ls) = then (storable blocks at l) (λ _. all_storable blocks (next at) ls)
+
+abbrev pub take_over : {H : Type 0} → List (Block H) → Address → Result (Cell H) TrapKind → List (Block H)
+take_over blocks to (Ok c) = put blocks to c.value
+take_over blocks to (Err t) = blocks
+
+-- so many cells one after the other, each read just before it is written
+abbrev pub copied : {H : Type 0} → ℕ → List (Block H) → Address → Address → List (Block H)
+copied zero blocks to from = blocks
+copied (suc n) blocks to from = copied n (take_over blocks to (cell blocks from)) (next to) (next from)
+
+-- cells of these leaves copied, where all can be read and then all can be written
+abbrev pub copy : {H : Type 0} → List (Block H) → Address → Address → List CType → Result (List (Block H)) TrapKind
+copy blocks to from leaves =
+    then (loadable blocks from leaves) (λ _. then (all_storable blocks to leaves) (λ _. Ok (copied (length leaves) blocks to from)))
+
 -- how many cells live, where a block without cells counts as one
 abbrev pub weight : {H : Type 0} → Block H → ℕ
 weight (Live allocated []) = 1
@@ -79,6 +124,44 @@ living (b ∷ bs) = weight b + living bs
 -- a block is gone, and its cells with it
 abbrev pub ended : {H : Type 0} → List (Block H) → ℕ → List (Block H)
 ended blocks b = update (λ _. Gone) blocks b
+
+-- whether a block of this kind ends at this offset: an allocated one, at its start
+abbrev pub freeable : {H : Type 0} → Option (Block H) → ℕ → Result (Unit {0}) TrapKind
+freeable (Some (Live true cells)) zero = Ok tt
+freeable (Some (Live true cells)) (suc i) = Err M1
+freeable (Some (Live false cells)) i = Err M1
+freeable (Some Gone) i = Err M2
+freeable None i = Err M2
+
+-- the allocated block that starts at an address is gone; nothing is done at null
+abbrev pub free : {H : Type 0} → List (Block H) → Address → Result (List (Block H)) TrapKind
+free blocks Null = Ok blocks
+free blocks (At b i) = then (freeable (slice_get blocks b) i) (λ _. Ok (ended blocks b))
+
+-- what a call answers that changes the blocks, and leaves them as they were at a trap
+abbrev pub Changes : {H : Type 0} → Result (List (Block H)) TrapKind → Result (Unit {0}) TrapKind → List (Block H) → List (Block H) → Type 0
+Changes r (Ok u) old new = r ≡ Ok new
+Changes r (Err t) old new = (r ≡ Err t) × (new ≡ old)
+
+-- a value of the form of its leaf: of the kind where it is public, and hidden where the leaf is
+abbrev pub HasForm : {H : Type 0} → CType → CellValue H → Type 0
+HasForm (CInt k false) (Int n) = IsOfKind k n
+HasForm (CInt k true) (Hidden h) = Unit {0}
+HasForm (CPointer' f u t) (Pointer at) = Unit {0}
+HasForm _ _ = ⊥
+
+abbrev pub CellsHaveForm : {H : Type 0} → List (Cell H) → Type 0
+CellsHaveForm [] = Unit {0}
+CellsHaveForm (c ∷ cs) = HasForm c.leaf c.value × CellsHaveForm cs
+
+abbrev pub BlockHasForm : {H : Type 0} → Block H → Type 0
+BlockHasForm (Live allocated cells) = CellsHaveForm cells
+BlockHasForm Gone = Unit {0}
+
+-- each cell's value is of its leaf's form
+abbrev pub AllHaveForm : {H : Type 0} → List (Block H) → Type 0
+AllHaveForm [] = Unit {0}
+AllHaveForm (b ∷ bs) = BlockHasForm b × AllHaveForm bs
 
 module _ {H : Type 0} (zero_of : IntKind → H) where
   -- what a new cell holds
@@ -100,3 +183,8 @@ module _ {H : Type 0} (zero_of : IntKind → H) where
   make limit allocated blocks leaves =
       let b = Live allocated (blanks leaves) in
       joined (nat_le (living blocks + weight b) limit && nat_lt (length blocks) (2 ^ 63)) blocks b
+
+  -- a new block of so many copies of these leaves
+  abbrev pub make_copies : ℕ → Bool → List (Block H) → List CType → ℤ → Result (List (Block H)) TrapKind
+  make_copies limit allocated blocks leaves (pos n) = make limit allocated blocks (repeated n leaves)
+  make_copies limit allocated blocks leaves (negsuc n) = Err M4

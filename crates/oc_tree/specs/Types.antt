@@ -1,8 +1,10 @@
--- Types: when two are equal, when a cell of one is read as the other, and the cells that a type takes.
-use Rattle.std.specs.Prelude.{ℕ, nat_eq, List, [], ◌∷◌, Bool, true, false, ◌&&◌, ◌||◌, not}
+-- Types: when two are equal, when a cell of one is read as the other, and the frozen form of a type.
+use Rattle.std.specs.Prelude.{ℕ, nat_eq, List, [], ◌∷◌, ◌++◌, Bool, true, false, ◌&&◌, ◌||◌, not, slice_index_or}
 use Rattle.oc_values.specs.declared.integers.IntKind.{IntKind}
 use Rattle.oc_values.specs.declared.integers.IntKind.TheVariants.{Bool as KBool, I8, U8, I16, U16, I32, U32, I64, U64}
-use Rattle.oc_tree.specs.declared.types.CType.{CType, Int, Pointer', Nothing, Row_of-CType, more_of-CType}
+use Rattle.oc_tree.specs.declared.types.CType.{CType, Int, Pointer', Array', Struct, Nothing, Row_of-CType, end_of-CType, more_of-CType}
+use Rattle.oc_tree.specs.declared.types.FieldType.{FieldType}
+use Rattle.oc_tree.specs.declared.types.StructType.{StructType}
 
 -- kinds told apart by numbers
 abbrev pub number_of_kind : IntKind → ℕ
@@ -33,6 +35,8 @@ abbrev mutual
   pub same : Bool → CType → CType → Bool
   same marks (Int k o) (Int l p) = same_kind k l && alike o p
   same marks (Pointer' f u t) (Pointer' g v s) = marks_agree marks f g && same_row marks t s
+  same marks (Array' n u t) (Array' m v s) = nat_eq n m && same_row marks t s
+  same marks (Struct n) (Struct m) = nat_eq n m
   same marks Nothing Nothing = true
   same marks _ _ = false
 
@@ -48,8 +52,59 @@ is_frozen_pointer _ = false
 abbrev pub fits : CType → CType → Bool
 fits asked cell = same true asked cell || (is_frozen_pointer asked && same false asked cell)
 
--- the integer and pointer types of the cells of a type, in order
-abbrev pub leaves : CType → List CType
-leaves (Int k o) = Int k o ∷ []
-leaves (Pointer' f u t) = Pointer' f u t ∷ []
-leaves Nothing = []
+abbrev mutual
+  -- whether a type holds public data, given this of each struct: it is or contains a public integer or any pointer
+  pub holds_public : List Bool → CType → Bool
+  holds_public ss (Int k o) = not o
+  holds_public ss (Pointer' f u t) = true
+  holds_public ss (Array' n u t) = holds_public_row ss t
+  holds_public ss (Struct n) = slice_index_or ss n false
+  holds_public ss Nothing = false
+
+  pub holds_public_row : {m : _} → List Bool → Row_of-CType m → Bool
+  holds_public_row ss (more_of-CType t ts) = holds_public ss t
+  holds_public_row ss end_of-CType = false
+
+abbrev pub some_public : List Bool → List FieldType → Bool
+some_public ss [] = false
+some_public ss (f ∷ fs) = holds_public ss f.ty || some_public ss fs
+
+abbrev pub public_after : List Bool → List StructType → List Bool
+public_after known [] = known
+public_after known (s ∷ ss) = public_after (known ++ some_public known s.fields ∷ []) ss
+
+-- which structs hold public data: each holds only earlier ones by value
+abbrev pub public_structs : List StructType → List Bool
+public_structs ss = public_after [] ss
+
+abbrev mutual
+  -- the type with every pointer frozen that leads to a type that holds public data
+  pub freeze : List Bool → CType → CType
+  freeze ss (Int k o) = Int k o
+  freeze ss (Pointer' f u t) = Pointer' (holds_public_row ss t) u (freeze_row ss t)
+  freeze ss (Array' n u t) = Array' n u (freeze_row ss t)
+  freeze ss (Struct n) = Struct n
+  freeze ss Nothing = Nothing
+
+  pub freeze_row : {m : _} → List Bool → Row_of-CType m → Row_of-CType m
+  freeze_row ss (more_of-CType t ts) = more_of-CType (freeze ss t) ts
+  freeze_row ss end_of-CType = end_of-CType
+
+-- a pointer inside a frozen one is frozen where it leads to public data, and elsewhere it may be frozen only there
+abbrev pub mark_allowed : Bool → Bool → Bool → Bool
+mark_allowed true f p = alike f p
+mark_allowed false true p = p
+mark_allowed false false p = true
+
+abbrev mutual
+  -- whether a type is in normal form, inside a frozen pointer or not
+  pub is_normal : List Bool → Bool → CType → Bool
+  is_normal ss inside (Int k o) = true
+  is_normal ss inside (Pointer' f u t) = mark_allowed inside f (holds_public_row ss t) && is_normal_row ss (inside || f) t
+  is_normal ss inside (Array' n u t) = is_normal_row ss inside t
+  is_normal ss inside (Struct n) = true
+  is_normal ss inside Nothing = true
+
+  pub is_normal_row : {m : _} → List Bool → Bool → Row_of-CType m → Bool
+  is_normal_row ss inside (more_of-CType t ts) = is_normal ss inside t
+  is_normal_row ss inside end_of-CType = true

@@ -42,11 +42,11 @@ abbrev pub is_of_slot : CType → Option SlotType → Bool
 is_of_slot t (Some s) = same true t s.ty
 is_of_slot t None = false
 
--- a type that has values
+-- a type whose values one cell holds
 abbrev pub has_values : CType → Bool
 has_values (Int k o) = true
 has_values (Pointer' f u t) = true
-has_values Nothing = false
+has_values _ = false
 
 -- an unfrozen pointer to the type
 abbrev pub points_to : CType → CType → Bool

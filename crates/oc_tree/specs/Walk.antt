@@ -30,7 +30,7 @@ use Rattle.oc_tree.specs.declared.typed.StmtNode.{StmtNode}
 use Rattle.oc_tree.specs.declared.typed.StmtNode.TheVariants.{Declare, Express}
 use Rattle.oc_tree.specs.declared.typed.TypedFunction.{TypedFunction}
 use Rattle.oc_tree.specs.declared.program.Typed.{Typed}
-use Rattle.oc_tree.specs.Types.{leaves}
+use Rattle.oc_tree.specs.Layout.{leaves}
 use Rattle.oc_tree.specs.Typing.{is_sum}
 use Rattle.oc_tree.specs.Domain.{Domain}
 use Rattle.oc_tree.specs.Values.{wrong, reads, initializes, constant, follows, slot, formatted}
@@ -160,7 +160,7 @@ module _ (D : Domain) where
 
   -- a new variable, whose slot's name stands for it from now on: its block
   abbrev pub opens : Spot → CType → ℕ → A ℕ
-  opens p ty n = bind (still (makes (λ k. D.known k (pos 0)) p (leaves ty))) (λ b. bind (enter n b) (λ _. pure b))
+  opens p ty n = bind (still (makes (λ k. D.known k (pos 0)) p (leaves [] ty))) (λ b. bind (enter n b) (λ _. pure b))
 
   -- a variable and its initialiser, in which its own name is visible
   abbrev pub declares : Around → Declared → A (Unit {0})

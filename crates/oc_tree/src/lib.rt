@@ -2,16 +2,22 @@
 //!
 //! The types are plain data. What they mean stands in `specs/`, one subject a file:
 //!
-//! - `Types`: the cells of a type, and when one type is read as another.
+//! - `Literals`: the numbers that a source writes out.
+//! - `Types`: when two types are equal, when one is read as another, and the frozen form of a type.
+//! - `Layout`: the cells of a type, and the integer and pointer types of these cells in order.
 //! - `Memory`: blocks of cells, and what is read, written, made and ended.
+//! - `Joined`: two memories of two contents that answer alike.
 //! - `Domain`, `Walking`, `Walk`: the walk of a typed tree over any domain of hidden values.
 //! - `Clear`: the domain whose hidden values are plain integers, and with it the clear meaning.
 //! - `Shown`: the bytes that shown items are printed as, and the status of an outcome.
 //! - `Typing`: when a typed tree is well typed, which its type keeps.
 #![tactic(auto)]
 
+pub mod leaves;
+pub mod literal;
 pub mod memory;
 pub mod outcome;
+pub mod parsed;
 pub mod program;
 pub mod row;
 pub mod run;
@@ -20,6 +26,8 @@ pub mod spot;
 pub mod typed;
 pub mod types;
 
+pub use leaves::{push_leaves, table_of};
+pub use literal::Literal;
 pub use memory::{Address, Block, Cell, CellValue, Leaf};
 pub use oc_values::{
     BinaryOp, Boxed, IntKind, Items, Name, NoMemory, ZeroDivisor, convert, public_op, wrap,
@@ -34,4 +42,4 @@ pub use typed::{
     Builtin, Declared, ExprNode, PlaceNode, PrintPiece, Stmt, StmtNode, TExpr, TPlace,
     TypedFunction,
 };
-pub use types::{CType, SlotType};
+pub use types::{CType, FieldType, SlotType, StructType};

@@ -31,6 +31,14 @@ pub fn same_type(marks: bool, a: &CType, b: &CType) -> bool
                 to: other,
             },
         ) => { same_marks(marks, *frozen, *kept) && same_type(marks, to.get(), other.get()) }
+        (
+            CType::Array { len, of },
+            CType::Array {
+                len: size,
+                of: other,
+            },
+        ) => { *len == *size && same_type(marks, of.get(), other.get()) }
+        (CType::Struct(n), CType::Struct(m)) => *n == *m,
         (CType::Nothing, CType::Nothing) => true,
         _ => false,
     }
