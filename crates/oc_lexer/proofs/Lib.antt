@@ -1,0 +1,11 @@
+pub mod Runs
+pub mod CommentEnds
+pub mod Parts
+pub mod Quotes
+pub mod Openings
+pub mod Longest
+pub mod Elements
+pub mod Bodies
+pub mod Accepted
+pub mod Exact
+pub mod Walks

@@ -1,0 +1,14 @@
+pub mod Bytes
+pub mod Kinds
+pub mod Comments
+pub mod Words
+pub mod Numbers
+pub mod Literals
+pub mod Places
+pub mod Directives
+pub mod Pieces
+pub mod Sources
+pub mod Reading
+pub mod Moving
+pub mod Known
+pub mod Faults

@@ -1,0 +1,161 @@
+-- What is read of a text: the piece at its front, and how many bytes it has.
+use Rattle.std.specs.Prelude.{ℕ, ◌+◌, ◌-◌, List, [], ◌∷◌, ◌++◌, length, get_or, drop, Option, Some, None, is_none, option_map, Bool, false, ◌&&◌, ◌||◌, not, nat_eq, codes, if◌then◌else◌}
+use Rattle.std.specs.List.{starts_with}
+use Rattle.oc_tree.specs.declared.literal.Literal.{Literal}
+use Rattle.oc_lexer.specs.declared.bytes.ByteClass.TheVariants as class
+use Rattle.oc_lexer.specs.declared.kinds.Kind.{Kind}
+use Rattle.oc_lexer.specs.declared.kinds.Kind.TheVariants as k
+use Rattle.oc_lexer.specs.declared.token.Sign.{Sign}
+use Rattle.oc_lexer.specs.declared.token.TokenKind.TheVariants as t
+use Rattle.oc_lexer.specs.declared.cuts.Cut.{Cut}
+use Rattle.oc_lexer.specs.declared.cuts.Cut.TheVariants as cut
+use Rattle.oc_lexer.specs.Bytes.{is_in, is_space, is_name_start, is_name_byte, begins_with, run, after}
+use Rattle.oc_lexer.specs.Kinds.{kind_at}
+use Rattle.oc_lexer.specs.Comments.{ends_line}
+use Rattle.oc_lexer.specs.Words.{keyword_of, word_kind, sign_text, signs}
+use Rattle.oc_lexer.specs.Numbers.{literal_of, is_empty}
+use Rattle.oc_lexer.specs.Literals.{escape_value, is_text_byte, is_character_byte}
+use Rattle.oc_lexer.specs.Directives.{headers}
+use Rattle.oc_lexer.specs.Pieces.{Piece, Blank, Comment, Include, Define, Lexeme}
+
+-- ---- comments
+
+-- how many bytes stand before the first end of a comment
+unfoldable pub body_length : List ℕ → Option ℕ
+body_length [] = None
+body_length (b ∷ []) = None
+body_length (b ∷ c ∷ more) = if nat_eq b 42 && nat_eq c 47 then Some 0 else option_map (λ n. n + 1) (body_length (c ∷ more))
+
+-- how many bytes a comment has that begins here
+unfoldable pub comment_length : List ℕ → Option ℕ
+comment_length text = option_map (λ n. n + 4) (body_length (drop 2 text))
+
+-- a line ends here, or a comment begins that goes up to its end
+abbrev pub is_line_end : List ℕ → Bool
+is_line_end text = is_empty text || nat_eq (get_or text 0 0) 10 || (nat_eq (get_or text 0 0) 47 && nat_eq (get_or text 1 0) 47)
+
+abbrev pub starts_comment : List ℕ → Bool
+starts_comment text = nat_eq (get_or text 0 0) 47 && nat_eq (get_or text 1 0) 42
+
+-- ---- signs
+
+abbrev pub find_sign : List Sign → List ℕ → Option Sign
+find_sign [] text = None
+find_sign (x ∷ xs) text = if starts_with nat_eq text (sign_text x) then Some x else find_sign xs text
+
+unfoldable pub sign_at : List ℕ → Option Sign
+sign_at text = find_sign signs text
+
+-- ---- characters and texts
+
+unfoldable pub character_at : List ℕ → Option (ℕ × ℕ)
+character_at text =
+    if nat_eq (get_or text 1 0) 92 && nat_eq (get_or text 3 0) 39 then option_map (λ v. (v, 4)) (escape_value (get_or text 2 0))
+    else if is_character_byte (get_or text 1 0) && nat_eq (get_or text 2 0) 39 then Some (get_or text 1 0, 3)
+    else None
+
+-- the byte that stands first in a text, and how many bytes spell it
+unfoldable pub element_at : List ℕ → Option (ℕ × ℕ)
+element_at [] = None
+element_at (b ∷ more) = if nat_eq b 92 then option_map (λ v. (v, 2)) (escape_value (get_or more 0 0)) else if is_text_byte b then Some (b, 1) else None
+
+abbrev pub onto : List ℕ → ℕ → Option (List ℕ × ℕ) → Option (List ℕ × ℕ)
+onto bytes n None = None
+onto bytes n (Some (more, m)) = Some (bytes ++ more, n + m)
+
+abbrev pub onto_escape : Option ℕ → Option (List ℕ × ℕ) → Option (List ℕ × ℕ)
+onto_escape (Some v) o = onto (v ∷ []) 2 o
+onto_escape None o = None
+
+-- the bytes of a text up to the quote that closes it, and how many bytes spell them, with that quote
+unfoldable pub quoted : List ℕ → Option (List ℕ × ℕ)
+quoted [] = None
+quoted (b ∷ []) = if nat_eq b 34 then Some ([], 1) else None
+quoted (b ∷ c ∷ more) =
+    if nat_eq b 34 then Some ([], 1)
+    else if nat_eq b 92 then onto_escape (escape_value c) (quoted more)
+    else if is_text_byte b then onto (b ∷ []) 1 (quoted (c ∷ more))
+    else None
+
+-- ---- directives
+
+abbrev pub find_header : List (List ℕ) → List ℕ → Option ℕ
+find_header [] text = None
+find_header (x ∷ xs) text = if starts_with nat_eq text x then Some (length x) else find_header xs text
+
+-- how many bytes of a text name a header, after which the line ends
+abbrev pub header_end : List ℕ → Option ℕ → Option ℕ
+header_end text None = None
+header_end text (Some n) = if ends_line false (drop n text) then Some n else None
+
+abbrev pub header_at : List ℕ → Option ℕ
+header_at text = header_end text (find_header headers text)
+
+-- how many bytes an `#include` has, whose header these bytes begin with
+abbrev pub included : List ℕ → List ℕ → Option ℕ
+included text rest = option_map (λ n. length text - length rest + n) (header_at rest)
+
+unfoldable pub include_length : List ℕ → Option ℕ
+include_length text = if starts_with nat_eq text (codes "#include") then included text (after is_space (drop 8 text)) else None
+
+-- a name that a `#define` may take
+abbrev pub is_free_name : List ℕ → Bool
+is_free_name name = begins_with is_name_start name && is_none (keyword_of name)
+
+abbrev pub is_definition : List ℕ → List ℕ → List ℕ → List ℕ → Bool
+is_definition gap name second rest = not (is_empty gap) && not (is_empty second) && is_free_name name && ends_line false rest
+
+-- the name, the literal and the number of bytes of a `#define` of these parts
+abbrev pub defined_as : List ℕ → List ℕ → List ℕ → List ℕ → List ℕ → List ℕ → Option (List ℕ × Literal × ℕ)
+defined_as text gap name second number rest =
+    if is_definition gap name second rest then option_map (λ literal. (name, literal, length text - length rest)) (literal_of number) else None
+
+abbrev pub define_number : List ℕ → List ℕ → List ℕ → List ℕ → List ℕ → Option (List ℕ × Literal × ℕ)
+define_number text gap name second rest = defined_as text gap name second (run (is_in class.Number) rest) (after (is_in class.Number) rest)
+
+abbrev pub define_second : List ℕ → List ℕ → List ℕ → List ℕ → Option (List ℕ × Literal × ℕ)
+define_second text gap name rest = define_number text gap name (run is_space rest) (after is_space rest)
+
+abbrev pub define_name : List ℕ → List ℕ → List ℕ → Option (List ℕ × Literal × ℕ)
+define_name text gap rest = define_second text gap (run is_name_byte rest) (after is_name_byte rest)
+
+abbrev pub define_after : List ℕ → List ℕ → Option (List ℕ × Literal × ℕ)
+define_after text rest = define_name text (run is_space rest) (after is_space rest)
+
+unfoldable pub define_at : List ℕ → Option (List ℕ × Literal × ℕ)
+define_at text = if starts_with nat_eq text (codes "#define") then define_after text (drop 7 text) else None
+
+-- ---- pieces
+
+abbrev pub piece_of : Cut → Piece
+piece_of cut.Blank = Blank
+piece_of cut.Comment = Comment
+piece_of cut.Include = Include
+piece_of (cut.Define name literal) = Define name.now literal
+piece_of (cut.Lexeme kind) = Lexeme kind
+
+abbrev pub lexeme_of_length : ℕ → Option Literal → Option (Piece × ℕ)
+lexeme_of_length n (Some literal) = Some (Lexeme (t.Number literal), n)
+lexeme_of_length n None = None
+
+abbrev pub defined_piece : Option (List ℕ × Literal × ℕ) → Option (Piece × ℕ)
+defined_piece found = option_map (λ d. (Define d.0 d.1, d.2)) found
+
+abbrev pub directive_of : Option ℕ → List ℕ → Option (Piece × ℕ)
+directive_of (Some n) text = Some (Include, n)
+directive_of None text = defined_piece (define_at text)
+
+-- the piece that begins so, and how many bytes it has
+abbrev pub cut_of : Kind → List ℕ → Option (Piece × ℕ)
+cut_of k.Blank text = Some (Blank, 1)
+cut_of k.LineComment text = Some (Comment, length (run (is_in class.Line) text))
+cut_of k.BlockComment text = option_map (λ n. (Comment, n)) (comment_length text)
+cut_of k.Directive text = directive_of (include_length text) text
+cut_of k.Word text = Some (Lexeme (word_kind (keyword_of (run is_name_byte text)) (run is_name_byte text)), length (run is_name_byte text))
+cut_of k.Number text = lexeme_of_length (length (run (is_in class.Number) text)) (literal_of (run (is_in class.Number) text))
+cut_of k.Character text = option_map (λ c. (Lexeme (t.Character c.0), c.1)) (character_at text)
+cut_of k.Text text = option_map (λ c. (Lexeme (t.Text c.0), c.1 + 1)) (quoted (drop 1 text))
+cut_of k.Sign text = option_map (λ s. (Lexeme (t.Sign s), length (sign_text s))) (sign_at text)
+
+abbrev pub cut_at : Bool → List ℕ → Option (Piece × ℕ)
+cut_at is_fresh text = cut_of (kind_at is_fresh text) text
