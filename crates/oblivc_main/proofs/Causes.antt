@@ -42,7 +42,7 @@ breaks_of ws n size (Some k) u = record { within = u.within; begun = u.begun; fa
 breaks_of ws n size None c = subst (Breaks ws) (sym size) (record {
   within = omega arith;
   begun = ([], subst IsCommand (sym (ap (λ t. t ++ []) (all_of ws) ∙ append-nil ws)) c);
-  fault = λ h. absurd (omega (arith, h))
+  fault = λ h. absurd (omega (arith, h));
 })
 
 module _ (c : Call) (source first second : List ℕ) (clear : IsClear c.words source first second) where
