@@ -47,8 +47,8 @@ breaks_of ws n size None c = subst (Breaks ws) (sym size) (record {
 
 module _ (c : Call) (source first second : List ℕ) (clear : IsClear c.words source first second) where
   stopped : (stop : Stop) (status : ℕ) → Ends (files_of c source first second) c.out (Err stop) → Said c.err (line_of source first second stop) (status_of stop) status → Answered c status
-  stopped Refused status e (inl said) = refused said.0 ((source, first, second, clear, e.0), e.1, said.1)
-  stopped Refused status e (inr none) = without_memory none (inl e.1)
+  stopped (Refused r) status e (inl said) = refused said.0 ((source, first, second, clear, (r, e.0, said.1)), e.1)
+  stopped (Refused r) status e (inr none) = without_memory none (inl e.1)
   stopped (Unread which) status e (inl said) = unread said.0 (inl (source, first, second, clear, (which, e.0, said.1)), e.1)
   stopped (Unread which) status e (inr none) = without_memory none (inl e.1)
   stopped (WrongInput which) status e (inl said) = wrong_input said.0 ((source, first, second, clear, (which, e.0)), e.1, said.1)

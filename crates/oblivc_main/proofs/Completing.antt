@@ -4,14 +4,15 @@ use Rattle.std.specs.Prelude.{◌⊎◌, IfSome}
 use Rattle.std.specs.Option.{unwrap_or}
 use Rattle.std.proofs.lemmas.Option.{none-some}
 use Rattle.oc_outside.specs.Counts.{Rose}
-use Rattle.first_form.specs.First.{First as Reads}
+use Rattle.oblivc_main.specs.Sources.{IsTyped}
+use Rattle.oblivc_main.specs.declared.stop.Refusal.{Refusal}
 use Rattle.oblivc_main.specs.Inputs.{IsInput}
 use Rattle.oblivc_main.specs.Reading.{Told, Holds, IsAbsent, Unreadable, Refuses}
 use Rattle.oblivc_main.specs.Words.{IsClear, clear_words}
 use Rattle.oblivc_main.specs.DealWords.{IsDealCommand}
 use Rattle.oblivc_main.proofs.Causes.{not_both}
 use Rattle.oblivc_main.specs.Endings.{Files, IsWrong, IsUnreadable}
-use Rattle.oblivc_main.specs.Statuses.{Call, files_of, OfCommand, HasForms, IsFaultless, Completes, Answered, done, refused, usage, unread, wrong_input, without_memory, unwritten, OfDeal, SaysFile, SaysUnwritable}
+use Rattle.oblivc_main.specs.Statuses.{Call, files_of, OfCommand, HasForms, IsFaultless, Completes, Answered, done, refused, usage, unread, wrong_input, without_memory, unwritten, OfDeal, SaysRefused, SaysFile, SaysUnwritable}
 use Rattle.oblivc_main.specs.declared.stop.Which.{Which}
 use Rattle.oblivc_main.specs.declared.stop.Which.TheVariants.{Source, First, Second}
 
@@ -30,8 +31,8 @@ readable f name whole e faultless (inl absent) = present f.told name whole e abs
 readable f name whole e faultless (inr rose) = faultless rose.0
 
 module _ (f : Files) (h : HasForms f) where
-  not_refused : Refuses f.told f.source → ⊥
-  not_refused r = r.2 h.tree (subst (λ s. Reads s h.tree) (held f.told f.source r.0 h.source h.source_told r.1) h.accepted)
+  not_refused : (refusal : Refusal) → Refuses f.told f.source refusal → ⊥
+  not_refused refusal r = let refused = r.2 in refused.none h.tree (subst (λ s. IsTyped s h.tree) (held f.told f.source r.0 h.source h.source_told r.1) h.accepted)
 
   not_wrong : (which : Which) → IsWrong f which → ⊥
   not_wrong Source w = w
@@ -66,7 +67,7 @@ module _ (c : Call) (q : OfCommand c HasForms) where
 
   only : (status : ℕ) → Answered c status → IsFaultless c → (status ≡ 0) ⊎ (status ≡ 10)
   only status (done e d) l = inl e
-  only status (refused e r) l = let o = r.0 in absurd (not_refused (files_of c o.0 o.1 o.2) (forms o.0 o.1 o.2 o.3) o.4)
+  only status (refused e r) l = let o = r.0 in let said = o.4 in absurd (not_refused (files_of c o.0 o.1 o.2) (forms o.0 o.1 o.2 o.3) said.0 said.1)
   only status (usage e u) l = let w = u.1 in absurd (w.none (inl (q.0, q.1, q.2, q.3)))
   only status (unread e u) l = absurd (all_read u.0 l.0)
   only status (wrong_input e w) l = let o = w.0 in let wrong = o.4 in absurd (not_wrong (files_of c o.0 o.1 o.2) (forms o.0 o.1 o.2 o.3) wrong.0 wrong.1)
@@ -83,7 +84,7 @@ module _ (c : Call) (q : IsDealCommand c.words) where
 
   dealt : (status : ℕ) → Answered c status → IsFaultless c → (status ≡ 0) ⊎ (status ≡ 10)
   dealt status (done e d) l = inl e
-  dealt status (refused e r) l = absurd (no_clear (λ f. Refuses f.told f.source) r.0)
+  dealt status (refused e r) l = absurd (no_clear (λ f. SaysRefused c.err f) r.0)
   dealt status (usage e u) l = let w = u.1 in absurd (w.none (inr q))
   dealt status (unread e u) l = absurd (all_written u.0 l.0)
   dealt status (wrong_input e w) l = absurd (no_clear (λ f. (which : Which) × IsWrong f which) w.0)

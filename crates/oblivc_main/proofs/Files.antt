@@ -1,14 +1,21 @@
 -- What was read of a file, up to a limit, says of the whole file what its form needs.
-use Rattle.std.proofs.Common.{ℕ, zero, suc, ◌+◌, ◌-◌, ◌*◌, ◌^◌, ◌≡◌, ◌<◌, ◌≤◌, ℤ, List, [], ◌∷◌, ◌++◌, length, take, drop, Option, Some, None, Bool, true, false, refl, sym, ap, ◌∙◌, subst, arith, length-append, min, inl, inr}
+use Rattle.std.proofs.Common.{ℕ, zero, suc, ◌+◌, ◌-◌, ◌*◌, ◌^◌, ◌≡◌, ◌<◌, ◌≤◌, ℤ, List, [], ◌∷◌, ◌++◌, length, take, drop, Option, Some, None, Bool, true, false, refl, sym, ap, ◌∙◌, subst, arith, length-append, min, inl, inr, Result, Ok, Err}
 use Rattle.std.specs.Prelude.{◌⊎◌}
 use Rattle.std.specs.Prelude.{IfSome, IsSomeAnd}
 use Rattle.std.proofs.lemmas.List.{take_all, length-take}
 use Rattle.std.proofs.Common.{pos, negsuc, SFits, w64}
 use Rattle.std.specs.Prelude.{IsTrue}
-use Rattle.std.proofs.lemmas.Bool.{ltb-true}
+use Rattle.std.proofs.lemmas.Bool.{ltb-true, cases_lt}
 use Rattle.oc_values.specs.Integers.{is_in_bits}
 use Rattle.oc_tree.specs.declared.program.Typed.{Typed}
-use Rattle.first_form.specs.First.{First}
+use Rattle.oc_tree.specs.declared.spot.Spot.{Spot}
+use Rattle.oblivc_main.specs.Sources.{IsTyped, IsRefused, Breaks, ReadsTree}
+use Rattle.oblivc_main.specs.Endings.{ReadSource}
+use Rattle.oblivc_main.specs.declared.stop.Rule.{Rule}
+use Rattle.oblivc_main.specs.declared.stop.Rule.TheVariants as rule
+use Rattle.oblivc_main.specs.declared.stop.Refusal.{Refusal}
+use Rattle.oblivc_main.specs.declared.stop.Stop.{Stop}
+use Rattle.oblivc_main.specs.declared.stop.Stop.TheVariants.{Refused, Unread, WrongInput, Unwritten, NoMemory}
 use Rattle.oblivc_main.specs.Inputs.{IsInput, sign_of, line_end}
 use Rattle.oblivc_main.specs.Reading.{Accepts, Refuses, HasWord, HasNoWord, Told, Holds}
 
@@ -36,16 +43,47 @@ some_told None bytes limit h = (bytes, tt, inr refl)
 some_told (Some None) bytes limit h = absurd h
 some_told (Some (Some whole)) bytes limit h = (whole, refl, inl h)
 
-pub accepted : (told : Told) (file bytes : List ℕ) (t : Typed) → Fronts (told file) 1048577 bytes → First bytes t → Accepts told file t
-accepted told file bytes t h f = (bytes, whole_told (told file) bytes 1048577 h (omega (arith, f.size)), f)
+typed_size : (source : List ℕ) (t : Typed) → IsTyped source t → length source ≤ 1048576
+typed_size source t h = h.parsed.tokens.spelled.size
 
--- a text whose front has no tree has none
-front_first : (whole bytes : List ℕ) → (bytes ≡ take 1048577 whole) ⊎ (bytes ≡ whole) → (t : Typed) → First whole t → First bytes t
-front_first whole bytes (inl e) t f = subst (λ s. First s t) (sym (e ∙ take_all 1048577 whole (omega (arith, f.size)))) f
-front_first whole bytes (inr e) t f = subst (λ s. First s t) (sym e) f
+accepted : (told : Told) (file bytes : List ℕ) (t : Typed) → Fronts (told file) 1048577 bytes → IsTyped bytes t → Accepts told file t
+accepted told file bytes t h f = (bytes, whole_told (told file) bytes 1048577 h (omega (arith, typed_size bytes t f)), f)
 
-pub refused : (told : Told) (file bytes : List ℕ) → Fronts (told file) 1048577 bytes → ((t : Typed) → First bytes t → ⊥) → Refuses told file
-refused told file bytes h n = let w = some_told (told file) bytes 1048577 h in (w.0, w.1, λ t f. n t (front_first w.0 bytes w.2 t f))
+-- a long text breaks the rule that its front breaks, which is long too
+breaks_long : (whole bytes : List ℕ) (broken : Rule) (spot : Spot) → 1048576 < length bytes → 1048576 < length whole → Breaks bytes broken spot → Breaks whole broken spot
+breaks_long whole bytes (rule.Lex broken) spot lb lw (inl long) = inl (lw, long.1, long.2)
+breaks_long whole bytes (rule.Lex broken) spot lb lw (inr short) = absurd (omega (arith, short.0, lb))
+breaks_long whole bytes (rule.Parse broken) spot lb lw b = let lexed = b.1 in absurd (omega (arith, lexed.spelled.size, lb))
+breaks_long whole bytes rule.First spot lb lw b = let parsed = b.0.1 in absurd (omega (arith, parsed.tokens.spelled.size, lb))
+
+refused_long : (whole bytes : List ℕ) (r : Refusal) → 1048576 < length bytes → 1048576 < length whole → IsRefused bytes r → IsRefused whole r
+refused_long whole bytes r lb lw h = record {
+  broken = breaks_long whole bytes r.rule r.spot lb lw h.broken;
+  none = λ t f. absurd (omega (arith, typed_size whole t f, lw));
+}
+
+-- a text is refused as its front is
+refused_front : (whole bytes : List ℕ) (r : Refusal) → (bytes ≡ take 1048577 whole) ⊎ (bytes ≡ whole) → IsRefused bytes r → IsRefused whole r
+refused_front whole bytes r (inr e) h = subst (λ s. IsRefused s r) e h
+refused_front whole bytes r (inl e) h = at_length (cases_lt (length bytes) 1048577)
+  where
+    size : length bytes ≡ min 1048577 (length whole)
+    size = ap length e ∙ length-take 1048577 whole
+    at_length : (length bytes < 1048577) ⊎ (1048577 ≤ length bytes) → IsRefused whole r
+    at_length (inl short) = subst (λ s. IsRefused s r) (sym (below_limit whole bytes 1048577 e short)) h
+    at_length (inr long) = refused_long whole bytes r (omega (arith, long)) (omega (arith, size, long)) h
+
+refused : (told : Told) (file bytes : List ℕ) (r : Refusal) → Fronts (told file) 1048577 bytes → IsRefused bytes r → Refuses told file r
+refused told file bytes r h n = let w = some_told (told file) bytes 1048577 h in (w.0, w.1, refused_front w.0 bytes r w.2 n)
+
+-- what reading the bytes of a source answers, the command's reading answers of the file
+pub read_so : (told : Told) (before after : ℕ) (failed : Option (List ℕ)) (file bytes : List ℕ) → Fronts (told file) 1048577 bytes → (r : Result Typed Stop) → ReadsTree bytes r → ReadSource told before after failed file r
+read_so told before after failed file bytes h (Ok t) f = accepted told file bytes t h f
+read_so told before after failed file bytes h (Err (Refused r)) f = refused told file bytes r h f
+read_so told before after failed file bytes h (Err (Unread which)) f = absurd f
+read_so told before after failed file bytes h (Err (WrongInput which)) f = absurd f
+read_so told before after failed file bytes h (Err Unwritten) f = absurd f
+read_so told before after failed file bytes h (Err NoMemory) f = tt
 
 ends_short : (m e : Bool) (digits : List ℕ) → length digits ≤ 19 → length (sign_of m ++ digits ++ line_end e) ≤ 21
 ends_short true true digits h = omega (arith, length-append (45 ∷ digits) (10 ∷ []))

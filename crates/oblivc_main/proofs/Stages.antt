@@ -25,14 +25,14 @@ module _ (told : Told) (before mid after : ℕ) (failed : Option (List ℕ)) (so
   files = record { told = told; faults_before = before; faults_after = after; failed = failed; source = source; first = first; second = second }
 
   first_so : (t : Typed) → Accepts told source t → before ≤ mid → (s : Stop) → ReadWord told mid after failed first First (Err s) → Runs files (Err s)
-  first_so t a le Refused h = absurd h
+  first_so t a le (Refused r) h = absurd h
   first_so t a le (Unread other) h = subst (λ w. IsUnreadable files w) (sym h.0) ((t, a), unreadable_since told before mid after failed first le h.1)
   first_so t a le (WrongInput other) h = subst (λ w. IsWrong files w) (sym h.0) ((t, a), h.1)
   first_so t a le Unwritten h = absurd h
   first_so t a le NoMemory h = tt
 
   second_so : (t : Typed) → Accepts told source t → (x : ℤ) → HasWord told first x → before ≤ mid → (s : Stop) → ReadWord told mid after failed second Second (Err s) → Runs files (Err s)
-  second_so t a x i le Refused h = absurd h
+  second_so t a x i le (Refused r) h = absurd h
   second_so t a x i le (Unread other) h = subst (λ w. IsUnreadable files w) (sym h.0) ((t, a, x, i), unreadable_since told before mid after failed second le h.1)
   second_so t a x i le (WrongInput other) h = subst (λ w. IsWrong files w) (sym h.0) ((t, a, x, i), h.1)
   second_so t a x i le Unwritten h = absurd h
@@ -58,5 +58,5 @@ module _ (told : Told) (before mid after : ℕ) (failed : Option (List ℕ)) (so
         accepted = a;
         first_input = subst (λ f. HasWord f first x) same i;
         second_input = subst (λ f. HasWord f second y) also j;
-        meaning = subst (λ o. Clear t (setup_of x y) items o) (ends_done a.0 t x y [] 1048576 1000000000 items outcome a.2 (omega arith) (omega arith) clear) clear;
+        meaning = subst (λ o. Clear t (setup_of x y) items o) (ends_done a.2.program t x y [] 1048576 1000000000 items outcome a.2.first (omega arith) (omega arith) clear) clear;
       }

@@ -85,7 +85,7 @@ IsWrong f Second = ReadsUpTo f Second × HasNoWord f.told f.second
 -- the cause of each end
 abbrev pub Ends : Files → Output → Result (Unit {0}) Stop → Type 0
 Ends f o (Ok u) = PrintsAll f o
-Ends f o (Err Refused) = Refuses f.told f.source × PrintsNothing o
+Ends f o (Err (Refused r)) = Refuses f.told f.source r × PrintsNothing o
 Ends f o (Err (Unread which)) = IsUnreadable f which × PrintsNothing o
 Ends f o (Err (WrongInput which)) = IsWrong f which × PrintsNothing o
 Ends f o (Err Unwritten) = Rose o.faults_before o.faults_after × PrintsFront f o
@@ -94,7 +94,7 @@ Ends f o (Err NoMemory) = PrintsNothing o ⊎ PrintsFront f o
 -- what reading the files and running the program answers
 abbrev pub Runs : Files → Result ClearRun Stop → Type 0
 Runs f (Ok run) = Shows f run.shown
-Runs f (Err Refused) = Refuses f.told f.source
+Runs f (Err (Refused r)) = Refuses f.told f.source r
 Runs f (Err (Unread which)) = IsUnreadable f which
 Runs f (Err (WrongInput which)) = IsWrong f which
 Runs f (Err Unwritten) = ⊥
@@ -103,7 +103,7 @@ Runs f (Err NoMemory) = Unit {0}
 -- what reading the source answers
 abbrev pub ReadSource : Told → ℕ → ℕ → Option (List ℕ) → List ℕ → Result Typed Stop → Type 0
 ReadSource told before after failed file (Ok t) = Accepts told file t
-ReadSource told before after failed file (Err Refused) = Refuses told file
+ReadSource told before after failed file (Err (Refused r)) = Refuses told file r
 ReadSource told before after failed file (Err (Unread Source)) = Unreadable told before after failed file
 ReadSource told before after failed file (Err NoMemory) = Unit {0}
 ReadSource told before after failed file (Err _) = ⊥

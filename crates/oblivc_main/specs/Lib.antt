@@ -4,6 +4,7 @@ pub mod Words
 pub mod Fitting
 pub mod Inputs
 pub mod InputParts
+pub mod Sources
 pub mod Reading
 pub mod Endings
 pub mod DealEndings

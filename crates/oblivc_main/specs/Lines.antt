@@ -1,12 +1,28 @@
 -- The lines that go to the error stream.
 use Rattle.std.specs.Prelude.{ℕ, List, [], ◌∷◌, ◌++◌, codes}
 use Rattle.std.specs.Fmt.{decimal}
+use Rattle.oc_lexer.specs.declared.token.LexRule.TheVariants.{L1, L2, L3, L4, L5, L6}
+use Rattle.oc_parser.specs.declared.ParseRule.TheVariants.{G1, G2}
+use Rattle.oblivc_main.specs.declared.stop.Rule.{Rule}
+use Rattle.oblivc_main.specs.declared.stop.Rule.TheVariants.{Lex, Parse, First}
+use Rattle.oblivc_main.specs.declared.stop.Refusal.{Refusal}
 
 abbrev pub usage_line : ℕ → List ℕ
 usage_line k = codes "usage " ++ decimal k ++ 10 ∷ []
 
-abbrev pub refused_line : List ℕ
-refused_line = codes "refused X1 1:1\n"
+abbrev pub rule_name : Rule → List ℕ
+rule_name (Lex L1) = codes "L1"
+rule_name (Lex L2) = codes "L2"
+rule_name (Lex L3) = codes "L3"
+rule_name (Lex L4) = codes "L4"
+rule_name (Lex L5) = codes "L5"
+rule_name (Lex L6) = codes "L6"
+rule_name (Parse G1) = codes "G1"
+rule_name (Parse G2) = codes "G2"
+rule_name First = codes "X1"
+
+abbrev pub refused_line : Refusal → List ℕ
+refused_line r = codes "refused " ++ rule_name r.rule ++ 32 ∷ decimal r.spot.line ++ 58 ∷ decimal r.spot.column ++ 10 ∷ []
 
 abbrev pub file_line : List ℕ → List ℕ
 file_line name = codes "file " ++ name ++ 10 ∷ []

@@ -2,7 +2,8 @@
 use Rattle.std.specs.Prelude.{ℕ, ◌≡◌, ℤ, List, Option, Some, None, IfSome, ◌⊎◌}
 use Rattle.oc_outside.specs.Counts.{Rose}
 use Rattle.oc_tree.specs.declared.program.Typed.{Typed}
-use Rattle.first_form.specs.First.{First}
+use Rattle.oblivc_main.specs.declared.stop.Refusal.{Refusal}
+use Rattle.oblivc_main.specs.Sources.{IsTyped, IsRefused}
 use Rattle.oblivc_main.specs.Inputs.{IsInput}
 
 -- what a vault tells of each name: None where nothing is told, Some None where the name holds nothing
@@ -16,12 +17,12 @@ Holds told name bytes = IfSome (told name) (λ held. held ≡ Some bytes)
 abbrev pub IsAbsent : Told → List ℕ → Type 0
 IsAbsent told name = IfSome (told name) (λ held. held ≡ None)
 
--- the source is of the first form, with this tree, or it has no tree
+-- the source has this tree, or it is refused
 abbrev pub Accepts : Told → List ℕ → Typed → Type 0
-Accepts told file t = (source : List ℕ) × Holds told file source × First source t
+Accepts told file t = (source : List ℕ) × Holds told file source × IsTyped source t
 
-abbrev pub Refuses : Told → List ℕ → Type 0
-Refuses told file = (source : List ℕ) × Holds told file source × ((t : Typed) → First source t → ⊥)
+abbrev pub Refuses : Told → List ℕ → Refusal → Type 0
+Refuses told file r = (source : List ℕ) × Holds told file source × IsRefused source r
 
 -- the input file has the form of one word, or it hasn't
 abbrev pub HasWord : Told → List ℕ → ℤ → Type 0

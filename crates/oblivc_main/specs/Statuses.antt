@@ -3,7 +3,8 @@ use Rattle.std.specs.Prelude.{ℕ, ◌≡◌, List, Option, Some, Err, ◌⊎◌
 use Rattle.oc_outside.specs.Counts.{Rose}
 use Rattle.oc_outside.specs.Told.{appended}
 use Rattle.oc_tree.specs.declared.program.Typed.{Typed}
-use Rattle.first_form.specs.First.{First as Reads}
+use Rattle.oblivc_main.specs.Sources.{IsTyped}
+use Rattle.oblivc_main.specs.declared.stop.Refusal.{Refusal}
 use Rattle.oblivc_main.specs.Inputs.{IsInput}
 use Rattle.oblivc_main.specs.Reading.{Told, Refuses}
 use Rattle.oblivc_main.specs.Words.{IsClear, Usage, Breaks}
@@ -58,12 +59,16 @@ SaysFile e f = (which : Which) × IsUnreadable f which × Says e (file_line (nam
 abbrev pub SaysUnwritable : Output → Writing → Deal → Type 0
 SaysUnwritable e w d = (file : DealFile) × IsUnwritable w d file × Says e (file_line (file_name d file))
 
+-- the source is refused: the rule and the place are on the line
+abbrev pub SaysRefused : Output → Files → Type 0
+SaysRefused e f = (r : Refusal) × Refuses f.told f.source r × Says e (refused_line r)
+
 -- the cause of each status, and what was written
 abbrev pub IsDone : Call → Type 0
 IsDone c = (OfCommand c (λ f. PrintsAll f c.out) ⊎ (OfDeal c HoldsBoth × PrintsNothing c.out)) × PrintsNothing c.err
 
 abbrev pub IsRefused : Call → Type 0
-IsRefused c = OfCommand c (λ f. Refuses f.told f.source) × PrintsNothing c.out × Says c.err refused_line
+IsRefused c = OfCommand c (λ f. SaysRefused c.err f) × PrintsNothing c.out
 
 abbrev pub IsUsage : Call → Type 0
 IsUsage c = (k : ℕ) × Usage c.words k × PrintsNothing c.out × Says c.err (usage_line k)
@@ -99,7 +104,7 @@ pub record HasForms (f : Files) : Type 0 where
   pub source : List ℕ
   pub source_told : f.told f.source ≡ Some (Some source)
   pub tree : Typed
-  pub accepted : Reads source tree
+  pub accepted : IsTyped source tree
   pub first : List ℕ
   pub first_told : f.told f.first ≡ Some (Some first)
   pub first_word : ℤ
@@ -120,14 +125,14 @@ Keeps c = (name : List ℕ) → (Makes c.words name → ⊥) → c.told_after na
 
 -- the status of a stop, and its line
 abbrev pub status_of : Stop → ℕ
-status_of Refused = 1
+status_of (Refused r) = 1
 status_of (Unread which) = 5
 status_of (WrongInput which) = 9
 status_of Unwritten = 11
 status_of NoMemory = 10
 
 abbrev pub line_of : List ℕ → List ℕ → List ℕ → Stop → List ℕ
-line_of source first second Refused = refused_line
+line_of source first second (Refused r) = refused_line r
 line_of source first second (Unread which) = file_line (named source first second which)
 line_of source first second (WrongInput which) = input_line
 line_of source first second Unwritten = output_line

@@ -39,7 +39,8 @@ pub fn refuse_words<E: Sink>(alloc: Global, words: &[String], err: &mut E) -> u8
 /// and then the receiver's half to the second; it prints nothing. The statuses:
 ///
 /// - 0: all was printed or written to the files, and nothing was written to `err`;
-/// - 1: the source isn't of the first form; `err` says `refused X1 1:1`;
+/// - 1: the source is refused; `err` says `refused RULE LINE:COLUMN`, with the first rule that it breaks and where:
+///   L1 to L6 of its tokens, G1 and G2 of its tree, or X1 at 1:1 where its tree isn't of the first form;
 /// - 2: the words aren't a command; `err` says `usage K`, with the least K such that no command begins
 ///   with the words 0 to K, or the number of words;
 /// - 5: a file is absent, or reading or writing it failed; `err` says `file NAME`;

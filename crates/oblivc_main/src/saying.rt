@@ -1,11 +1,13 @@
 //! The line on the error stream.
 
 ghost use Rattle.std.specs.Prelude.{◌≡◌, ℕ, List, IfOk, string_bytes};
-ghost use Rattle.oblivc_main.specs.Lines.{usage_line, file_line};
+ghost use Rattle.oblivc_main.specs.Lines.{usage_line, rule_name, refused_line, file_line};
 ghost use Rattle.oblivc_main.specs.Statuses.{Said, line_of, status_of};
 
-use crate::stop::{Stop, Which};
+use crate::stop::{Refusal, Rule, Stop, Which};
+use oc_lexer::LexRule;
 use oc_outside::{PutEnd, Sink, write_all};
+use oc_parser::ParseRule;
 use std::alloc::{AllocError, Global};
 
 /// The status for want of memory.
@@ -16,6 +18,33 @@ pub fn line_for_usage(alloc: Global, k: usize) -> Result<String, AllocError>
     ensures { IfOk result (λ line. string_bytes line ≡ usage_line k) }
 {
     format!(in alloc; "usage {k}\n")
+}
+
+/// What the line calls a rule.
+fn rule_name(rule: Rule) -> &'static str
+    ensures { result.now ≡ rule_name rule }
+{
+    match rule {
+        Rule::Lex(LexRule::L1) => "L1",
+        Rule::Lex(LexRule::L2) => "L2",
+        Rule::Lex(LexRule::L3) => "L3",
+        Rule::Lex(LexRule::L4) => "L4",
+        Rule::Lex(LexRule::L5) => "L5",
+        Rule::Lex(LexRule::L6) => "L6",
+        Rule::Parse(ParseRule::G1) => "G1",
+        Rule::Parse(ParseRule::G2) => "G2",
+        Rule::First => "X1",
+    }
+}
+
+/// The line for a source that is refused.
+fn line_for_refusal(alloc: Global, refusal: Refusal) -> Result<String, AllocError>
+    ensures { IfOk result (λ line. string_bytes line ≡ refused_line refusal) }
+{
+    let rule = rule_name(refusal.rule);
+    let line = refusal.spot.line;
+    let column = refusal.spot.column;
+    format!(in alloc; "refused {rule} {line}:{column}\n")
 }
 
 /// The line for a file that can't be read.
@@ -73,7 +102,7 @@ pub fn report<E: Sink>(
     }) (line_of source.now first.now second.now stop) (status_of stop) result }
 {
     match stop {
-        Stop::Refused => say(err, "refused X1 1:1\n", 1),
+        Stop::Refused(refusal) => say_line(err, line_for_refusal(alloc, refusal), 1),
         Stop::Unread(which) => {
             let name = match which {
                 Which::Source => source,

@@ -1,5 +1,27 @@
 //! Why a command ends before its end.
 
+use oc_lexer::LexRule;
+use oc_parser::ParseRule;
+use oc_tree::Spot;
+
+/// A rule that a source breaks.
+#[derive(Clone, Copy, Debug, PartialEq, Eq)]
+pub enum Rule {
+    /// L1 to L6: the source has no tokens.
+    Lex(LexRule),
+    /// G1 and G2: its tokens have no tree.
+    Parse(ParseRule),
+    /// X1: its tree isn't of the first form.
+    First,
+}
+
+/// Why a source is refused: a rule, and where it is broken.
+#[derive(Clone, Copy, Debug, PartialEq, Eq)]
+pub struct Refusal {
+    pub rule: Rule,
+    pub spot: Spot,
+}
+
 /// A file of the command `clear`.
 #[derive(Clone, Copy, Debug, PartialEq, Eq)]
 pub enum Which {
@@ -11,8 +33,8 @@ pub enum Which {
 /// Why the command `clear` ends before its end.
 #[derive(Clone, Copy, Debug, PartialEq, Eq)]
 pub enum Stop {
-    /// The source isn't of the first form.
-    Refused,
+    /// The source is refused.
+    Refused(Refusal),
     /// A file is absent, or reading it failed.
     Unread(Which),
     /// An input file isn't one line of its form.
