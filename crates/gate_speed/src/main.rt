@@ -8,8 +8,7 @@
 ghost use Rattle.std.specs.Prelude.{◌≡◌, length};
 
 use gate_core::{Blank, Gates, PlainBits};
-use std::env;
-use std::io;
+use std::{env, io};
 use word_circuits::{Word, multiply, quotient, resize};
 
 /// An operation whose gates are made.

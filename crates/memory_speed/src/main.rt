@@ -70,7 +70,7 @@ fn store_and_load(blocks: &mut Blocks<'_, i128>, live: u32, count: u64) -> u64 {
             offset: 0,
         };
         if blocks.store(at, &leaf, CellValue::Hidden(1)).is_ok() && blocks.load(at, &leaf).is_ok() {
-            found += 1;
+            found = u64::wrapping_add(found, 1);
         }
     }
     found
