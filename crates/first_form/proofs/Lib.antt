@@ -1,1 +1,5 @@
 pub mod Sample
+pub mod Names
+pub mod Nodes
+pub mod Forms
+pub mod Items

@@ -45,7 +45,7 @@ spots =
 abbrev fed : ℕ → List ℕ → Literal → Stmt
 fed n name party =
     stmt (here 2 n) (st.Declare (declared (field (here 2 (n + 10)) name (int_base (here 2 n) false true I32) 0 [])
-        (Some (expr (here 2 (n + 14)) (e.Call (codes "feedOblivInt") (expr (here 2 (n + 27)) (e.Call (codes "ocPrivate") (expr (here 2 (n + 37)) (e.Number literal_0) ∷ [])) ∷ expr (here 2 (n + 41)) (e.Number party) ∷ [])))) ∷ []))
+    (Some (expr (here 2 (n + 14)) (e.Call (codes "feedOblivInt") (expr (here 2 (n + 27)) (e.Call (codes "ocPrivate") (expr (here 2 (n + 37)) (e.Number literal_0) ∷ [])) ∷ expr (here 2 (n + 41)) (e.Number party) ∷ [])))) ∷ []))
 
 abbrev named : ℕ → List ℕ → Expr
 named n name = expr (here 3 n) (e.Named name)

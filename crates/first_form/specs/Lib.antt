@@ -1,4 +1,5 @@
 pub mod Items
 pub mod Trees
+pub mod Reading
 pub mod First
 pub mod Ending

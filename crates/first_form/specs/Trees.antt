@@ -71,6 +71,14 @@ abbrev pub sum : List Spot → Expr → List Summand → Expr
 sum ss left [] = left
 sum ss left (s ∷ more) = sum (drop 2 ss) (expr (at ss 0) (e.Binary s.op left (name_at (at ss 1) s.name))) more
 
+-- `revealOblivInt(&target, sum, 0)`
+abbrev pub revealing : Spot → Spot → Spot → Spot → List ℕ → Expr → Expr
+revealing spot address_spot target_spot zero_spot target total = call spot (codes "revealOblivInt") (expr address_spot (e.Unary Address (name_at target_spot target)) ∷ total ∷ number zero_spot literal_0 ∷ [])
+
+-- `printf` of a name in decimal and a newline
+abbrev pub printing : Spot → Spot → Spot → List ℕ → Expr
+printing spot text_spot name_spot name = call spot (codes "printf") (expr text_spot (e.Text (37 ∷ 100 ∷ 10 ∷ [])) ∷ name_at name_spot name ∷ [])
+
 -- The parsed statement of an item, whose nodes have these spots: the statement's first, then
 -- of `Feeds` those of the name, the type, the calls of feedOblivInt and ocPrivate, 0 and the party,
 -- of `Declares` those of the name and the type,
@@ -79,9 +87,8 @@ sum ss left (s ∷ more) = sum (drop 2 ss) (expr (at ss 0) (e.Binary s.op left (
 abbrev pub parsed : List Spot → Item → ParsedStmt
 parsed ss (Feeds name party) = declaration (at ss 0) (at ss 1) (at ss 2) true name (Some (feed (at ss 3) (at ss 4) (at ss 5) (at ss 6) party))
 parsed ss (Declares name) = declaration (at ss 0) (at ss 1) (at ss 2) false name None
-parsed ss (Reveals target name more) =
-    stmt (at ss 0) (st.Express (call (at ss 1) (codes "revealOblivInt") (expr (at ss 2) (e.Unary Address (name_at (at ss 3) target)) ∷ sum (drop 6 ss) (name_at (at ss 5) name) more ∷ number (at ss 4) literal_0 ∷ [])))
-parsed ss (Prints name) = stmt (at ss 0) (st.Express (call (at ss 1) (codes "printf") (expr (at ss 2) (e.Text (37 ∷ 100 ∷ 10 ∷ [])) ∷ name_at (at ss 3) name ∷ [])))
+parsed ss (Reveals target name more) = stmt (at ss 0) (st.Express (revealing (at ss 1) (at ss 2) (at ss 3) (at ss 4) target (sum (drop 6 ss) (name_at (at ss 5) name) more)))
+parsed ss (Prints name) = stmt (at ss 0) (st.Express (printing (at ss 1) (at ss 2) (at ss 3) name))
 
 abbrev pub parsed_items : List (List Spot) → List Item → List ParsedStmt
 parsed_items spots [] = []

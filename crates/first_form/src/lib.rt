@@ -1,6 +1,9 @@
 //! The first form of a program: one sum of one private word of each party.
 #![tactic(auto)]
 
+mod item;
+mod name;
+mod node;
 mod read;
 
 pub use read::read_first;
