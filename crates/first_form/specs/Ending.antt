@@ -10,6 +10,7 @@ use Rattle.oc_tree.specs.declared.run.ShownItem.TheVariants.{Print, Reveal}
 use Rattle.oc_tree.specs.declared.run.ClearSetup.{ClearSetup}
 use Rattle.oc_tree.specs.declared.outcome.Outcome.{Outcome}
 use Rattle.oc_tree.specs.declared.outcome.Outcome.TheVariants.{Done}
+use Rattle.oc_tree.specs.declared.parsed.Program.{Program}
 use Rattle.oc_tree.specs.declared.program.Typed.{Typed}
 use Rattle.oc_tree.specs.Clear.{Clear}
 use Rattle.first_form.specs.Items.{Item, Feeds, Declares, Reveals, Prints, Summand, same_bytes}
@@ -69,13 +70,13 @@ one_word_each public x y dealt budget = record { public = public; first = x ∷ 
 -- a program ends, where each party has one word and enough transfers and steps are left
 abbrev pub EndsDone : Type 0
 EndsDone =
-    (source : List ℕ) (t : Typed) (x y : ℤ) (public : List ℤ) (dealt budget : ℕ) (items : List ShownItem) (outcome : Outcome)
-    → First source t → 3200 ≤ dealt → 100 ≤ budget
+    (p : Program) (t : Typed) (x y : ℤ) (public : List ℤ) (dealt budget : ℕ) (items : List ShownItem) (outcome : Outcome)
+    → First p t → 3200 ≤ dealt → 100 ≤ budget
     → Clear t (one_word_each public x y dealt budget) items outcome → outcome ≡ Done
 
 -- there it ends, having shown what its items show, and has no other outcome
 abbrev pub ShowsItems : Type 0
 ShowsItems =
-    (source : List ℕ) (t : Typed) (x y : ℤ) (public : List ℤ) (dealt budget : ℕ) (items : List ShownItem) (outcome : Outcome)
-    → (f : First source t) → 3200 ≤ dealt → 100 ≤ budget
+    (p : Program) (t : Typed) (x y : ℤ) (public : List ℤ) (dealt budget : ℕ) (items : List ShownItem) (outcome : Outcome)
+    → (f : First p t) → 3200 ≤ dealt → 100 ≤ budget
     → (Clear t (one_word_each public x y dealt budget) items outcome ↔ ((items ≡ shown_items x y [] f.items) × (outcome ≡ Done)))

@@ -1,4 +1,4 @@
--- The items of a program of the first form: their words, and which names they may use.
+-- The items of a program of the first form, and which names they may use.
 use Rattle.std.specs.Prelude.{ℕ, ◌≡◌, ◌≤◌, List, [], ◌∷◌, ◌++◌, length, Option, Some, None, Bool, true, false, ◌&&◌, ◌||◌, not, nat_eq, nat_le, IsTrue, codes, if◌then◌else◌}
 use Rattle.std.specs.List.{list_all}
 use Rattle.oc_values.specs.declared.integers.BinaryOp.{BinaryOp}
@@ -19,41 +19,6 @@ pub data Item : Type 0 where
   -- a public name, printed on a line
   Prints : List ℕ → Item
 
--- the bytes " % d \ n "
-abbrev pub format_word : List ℕ
-format_word = 34 ∷ 37 ∷ 100 ∷ 92 ∷ 110 ∷ 34 ∷ []
-
-abbrev pub party_word : ℕ → List ℕ
-party_word party = if nat_eq party 1 then codes "1" else codes "2"
-
-abbrev pub op_word : BinaryOp → List ℕ
-op_word Add = codes "+"
-op_word _ = codes "-"
-
-abbrev pub summand_words : List Summand → List (List ℕ)
-summand_words [] = []
-summand_words (s ∷ ss) = op_word s.op ∷ s.name ∷ summand_words ss
-
--- the words of an item, in order
-abbrev pub item_words : Item → List (List ℕ)
-item_words (Feeds name party) =
-    codes "obliv" ∷ codes "int" ∷ name ∷ codes "=" ∷ codes "feedOblivInt" ∷ codes "(" ∷ codes "ocPrivate" ∷ codes "(" ∷ codes "0" ∷ codes ")" ∷ codes "," ∷ party_word party ∷ codes ")" ∷ codes ";" ∷ []
-item_words (Declares name) = codes "int" ∷ name ∷ codes ";" ∷ []
-item_words (Reveals target name more) =
-    (codes "revealOblivInt" ∷ codes "(" ∷ codes "&" ∷ target ∷ codes "," ∷ name ∷ summand_words more) ++ (codes "," ∷ codes "0" ∷ codes ")" ∷ codes ";" ∷ [])
-item_words (Prints name) = codes "printf" ∷ codes "(" ∷ format_word ∷ codes "," ∷ name ∷ codes ")" ∷ codes ";" ∷ []
-
-abbrev pub items_words : List Item → List (List ℕ)
-items_words [] = []
-items_words (i ∷ is) = item_words i ++ items_words is
-
--- the words before the items and after them
-abbrev pub opening_words : List (List ℕ)
-opening_words = codes "void" ∷ codes "oc_main" ∷ codes "(" ∷ codes "void" ∷ codes ")" ∷ codes "{" ∷ []
-
-abbrev pub program_words : List Item → List (List ℕ)
-program_words items = opening_words ++ items_words items ++ codes "}" ∷ []
-
 abbrev pub same_bytes : List ℕ → List ℕ → Bool
 same_bytes [] [] = true
 same_bytes [] (y ∷ ys) = false
@@ -68,18 +33,14 @@ is_among word (w ∷ ws) = same_bytes word w || is_among word ws
 abbrev pub is_letter : ℕ → Bool
 is_letter b = (nat_le 65 b && nat_le b 90) || (nat_le 97 b && nat_le b 122)
 
--- the language's keywords, and the names of its own that this form uses
-abbrev pub taken_words : List (List ℕ)
-taken_words =
-    codes "obliv" ∷ codes "frozen" ∷ codes "if" ∷ codes "else" ∷ codes "while" ∷ codes "for" ∷ codes "return" ∷ codes "break" ∷ codes "continue" ∷ codes "struct"
-    ∷ codes "void" ∷ codes "bool" ∷ codes "_Bool" ∷ codes "char" ∷ codes "short" ∷ codes "int" ∷ codes "long" ∷ codes "signed" ∷ codes "unsigned" ∷ codes "sizeof"
-    ∷ codes "true" ∷ codes "false" ∷ codes "NULL"
-    ∷ codes "feedOblivInt" ∷ codes "ocPrivate" ∷ codes "revealOblivInt" ∷ codes "printf" ∷ []
+-- the calls that this form uses, whose names stand for nothing else
+abbrev pub built_in_names : List (List ℕ)
+built_in_names = codes "feedOblivInt" ∷ codes "ocPrivate" ∷ codes "revealOblivInt" ∷ codes "printf" ∷ []
 
--- a name: one or more letters that aren't a word with a meaning
+-- a name: one or more letters, and no call of the language's own
 abbrev pub is_name : List ℕ → Bool
 is_name [] = false
-is_name (b ∷ bs) = list_all is_letter (b ∷ bs) && not (is_among (b ∷ bs) taken_words)
+is_name (b ∷ bs) = list_all is_letter (b ∷ bs) && not (is_among (b ∷ bs) built_in_names)
 
 -- a declared name, and whether it is hidden
 pub record Named : Type 0 where

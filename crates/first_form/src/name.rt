@@ -2,38 +2,10 @@
 
 ghost use Rattle.std.specs.Prelude.{◌≡◌, map};
 ghost use Rattle.std.specs.List.{list_all};
-ghost use Rattle.first_form.specs.Items.{is_among, is_letter, is_name, same_bytes, taken_words};
+ghost use Rattle.first_form.specs.Items.{is_among, is_letter, is_name, same_bytes, built_in_names};
 
-/// The language's keywords, and the names of its own that this form uses.
-const TAKEN_WORDS: [&[u8]; 27] = [
-    b"obliv",
-    b"frozen",
-    b"if",
-    b"else",
-    b"while",
-    b"for",
-    b"return",
-    b"break",
-    b"continue",
-    b"struct",
-    b"void",
-    b"bool",
-    b"_Bool",
-    b"char",
-    b"short",
-    b"int",
-    b"long",
-    b"signed",
-    b"unsigned",
-    b"sizeof",
-    b"true",
-    b"false",
-    b"NULL",
-    b"feedOblivInt",
-    b"ocPrivate",
-    b"revealOblivInt",
-    b"printf",
-];
+/// The calls that this form uses, whose names stand for nothing else.
+const BUILT_IN_NAMES: [&[u8]; 4] = [b"feedOblivInt", b"ocPrivate", b"revealOblivInt", b"printf"];
 
 /// Whether two texts are equal.
 pub fn same(left: &[u8], right: &[u8]) -> bool
@@ -54,11 +26,11 @@ fn is_among(word: &[u8], words: &[&[u8]]) -> bool
     false
 }
 
-/// Whether a word has a meaning of its own.
-fn is_taken(word: &[u8]) -> bool
-    ensures { result ≡ is_among word.now taken_words }
+/// Whether a word names a call of the language's own.
+fn is_built_in(word: &[u8]) -> bool
+    ensures { result ≡ is_among word.now built_in_names }
 {
-    is_among(word, &TAKEN_WORDS)
+    is_among(word, &BUILT_IN_NAMES)
 }
 
 /// Whether the byte is an ASCII letter.
@@ -75,9 +47,9 @@ fn is_of_letters(word: &[u8]) -> bool
     word.iter().all(|byte| is_letter(*byte))
 }
 
-/// Whether a word is a name: one or more letters that aren't a word with a meaning.
+/// Whether a word is a name: one or more letters, and no call of the language's own.
 pub fn is_name(word: &[u8]) -> bool
     ensures { result ≡ is_name word.now }
 {
-    !word.is_empty() && is_of_letters(word) && !is_taken(word)
+    !word.is_empty() && is_of_letters(word) && !is_built_in(word)
 }

@@ -2,6 +2,7 @@ pub mod Types
 pub mod Layout
 pub mod Memory
 pub mod Literals
+pub mod Parsed
 pub mod Joined
 pub mod Typing
 pub mod Domain
