@@ -20,7 +20,7 @@ use Rattle.oc_grammar.proofs.Reading.{start, also, turned, read, fails, ends, sa
 use Rattle.oc_grammar.proofs.Calls.{made, is_made, placed_found, placed_refused}
 use Rattle.oc_grammar.proofs.OpenEnds.{open-empty, open-express, open-return, open-break, open-continue}
 use Rattle.oc_expressions.specs.Parts.{begins}
-use Rattle.oc_expressions.proofs.Levels.{Begun, some_before}
+use Rattle.oc_expressions.proofs.Levels.{Begun, begun_append}
 use Rattle.oc_statements.specs.declared.leads.Simple.{Simple as SimpleLead}
 use Rattle.oc_statements.specs.declared.leads.Simple.TheVariants as lead
 use Rattle.oc_statements.specs.Shapes.{Simple, empty, express, returns, breaks, continues, simple_lead, expressed}
@@ -95,6 +95,20 @@ by_simple = let (v, x, d) = some_simple in (v, x, simple_out v x d)
 
 simple_opened : (ts : List Token) → Leaves Simple Any ts (By (λ t. after t (simple_lead t.kind))) ts
 simple_opened ts = turned (start Simple Any ts) simple_in simple_out
+
+-- with an expression
+pub simple_begun : {v : Stmt} {t : Token} {ys : List Token} → Simple v (t ∷ ys) → simple_lead t.kind ≡ lead.Express → begins t.kind ≡ true
+simple_begun {v} {t} {ys} d e = go (t ∷ ys) (simple_out v (t ∷ ys) d) refl
+  where
+    in_express : {v : Stmt} {x : List Token} → expressed v x → Begun x
+    in_express (then {xs = x} {zs = y} (placed d) q) = begun_append x y (before_begun d)
+
+    go : (x : List Token) → By (λ t. after t (simple_lead t.kind)) v x → t ∷ ys ≡ x → begins t.kind ≡ true
+    go _ (first {t = u} {ys = zs} q) h =
+        let f : t ≡ u = cc in
+        let c : simple_lead u.kind ≡ lead.Express = rw (← f) e in
+        let b : begins u.kind ≡ true = in_express (rw c at q) in
+        rw f b
 
 -- none takes an `else`
 pub simple_shut : {v : Stmt} {x : List Token} → Simple v x → ends_open v ≡ false
