@@ -1,0 +1,5 @@
+use Rattle.oc_declarators.proofs.Marks.{marked_read, not_marked}
+use Rattle.oc_declarators.proofs.bases.marked.Goals as goal
+
+pub returns : goal.returns
+returns c = marked_read _ _ _ _ _ _ _ c.in_ok-kind.ensures

@@ -1,0 +1,5 @@
+use Rattle.oc_grammar.proofs.Reading.{start, ends}
+use Rattle.oc_declarators.proofs.integers.int_after.Goals as goal
+
+pub returns-in-Bool : goal.returns-in-Bool
+returns-in-Bool c = rw c.in-Bool.is (ends (start _ _ _))

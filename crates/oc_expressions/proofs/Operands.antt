@@ -1,0 +1,145 @@
+-- Operands, with what stands before and after them.
+use Rattle.std.proofs.Common.{◌≡◌, ℕ, zero, suc, ◌+◌, ◌≤◌, ◌<◌, List, [], ◌∷◌, ◌++◌, Option, Some, None, refl, sym, ◌∙◌, ap, arith, Bool, true, false, subst, append-nil, append_assoc}
+use Rattle.oc_values.specs.declared.integers.BinaryOp.{BinaryOp}
+use Rattle.oc_tree.specs.declared.spot.Spot.{Spot}
+use Rattle.oc_tree.specs.declared.parsed.TypeName.{TypeName}
+use Rattle.oc_tree.specs.declared.parsed.Expr.{Expr}
+use Rattle.oc_tree.specs.declared.parsed.ExprNode.{ExprNode}
+use Rattle.oc_tree.specs.declared.parsed.ExprNode.TheVariants as e
+use Rattle.oc_lexer.specs.declared.token.Token.{Token}
+use Rattle.oc_lexer.specs.declared.token.TokenKind.{TokenKind}
+use Rattle.oc_lexer.specs.declared.token.TokenKind.TheVariants.{Name, Number, Character, Text, Keyword, Sign}
+use Rattle.oc_lexer.specs.declared.token.Keyword.TheVariants as w
+use Rattle.oc_lexer.specs.declared.token.Sign.{Sign as SignType}
+use Rattle.oc_lexer.specs.declared.token.Sign.TheVariants as s
+use Rattle.oc_grammar.specs.declared.tables.Prefix.{Prefix}
+use Rattle.oc_grammar.specs.declared.tables.Joint.{Joint}
+use Rattle.oc_grammar.specs.declared.taking.Named.{Named}
+use Rattle.oc_grammar.specs.declared.tables.Opening.TheVariants as o
+use Rattle.oc_grammar.specs.Tokens.{Is, Starts, NotNext, SignStarts, NoSign, spot_at}
+use Rattle.oc_grammar.specs.Tables.{prefix, operator, assignment, bump, strength, opening}
+use Rattle.oc_grammar.specs.Trees.{expr, prefixed, joined, Leaf, number, character, text, null, truth, falsity}
+use Rattle.oc_grammar.specs.Reading.{SameNext, Found, Refused, Leaves, Any, End, ended, Then, then, By, first, Maybe, stays, goes, Loop, at_last, turn}
+use Rattle.oc_grammar.specs.Calls.{One, one, ANamed, a_named, Placed, placed}
+use Rattle.oc_grammar.specs.WrittenTypes.{TypeNamed, Commas}
+use Rattle.oc_grammar.specs.Expressions.{Rule, Expression, Before, before, Arguments, none, some, Listed, last, more, assign, choose, operation, signed, cast, index, field, arrow, bumped, leaf, named, call, size, parens, at, Stops, Ends}
+use Rattle.oc_grammar.proofs.Reading.{start, also, turned, read, fails, ends, stuck, stuck_by, token, token_on, alone, through, through_fails, same_token, no_token, Goes, sure, Closes, close_end, close_then, after_end, after_then, then_end, stricter, loop_on, loop_done, loop_snoc, by_end, by_none, by_left, end_is}
+use Rattle.oc_grammar.proofs.Calls.{made, is_made, not_next, no_sign, close_one, after_one, placed_found, placed_refused}
+use Rattle.oc_declarators.specs.Forms.{closed_type}
+use Rattle.oc_expressions.specs.declared.signs.Post.{Post}
+use Rattle.oc_expressions.specs.declared.signs.Post.TheVariants as p
+use Rattle.oc_grammar.proofs.Lists.{CommaEnds}
+use Rattle.oc_declarators.proofs.Marks.{base_out}
+use Rattle.oc_grammar.specs.WrittenTypes.{type_named}
+use Rattle.oc_declarators.specs.Forms.{base_after}
+use Rattle.oc_grammar.specs.declared.tables.Opening.{Opening}
+use Rattle.oc_expressions.specs.Parts.{begins, LeafOf, leaf_of, post, post_after, PostStep, post_step, posts, closed_arguments, CallBy, call_by, size_after, name_after, PrimaryBy, by_leaf, by_size, by_name, primary, ParenAfter, by_cast, by_inner, Operand, by_paren, by_prefix, by_primary, BeginsType}
+use Rattle.oc_expressions.proofs.Levels.{lower, operator_level, post_level, filled, begun, Begun, begins_other, begun_append, spot_begun, stops_less, stops_kind, goes_kind, same_said, some_expr, some_before}
+
+-- ---- what stands after an operand
+
+data PostView : SignType → Post → Type 0 where
+  is_index : PostView s.LeftBracket p.Index
+  is_field : PostView s.Dot p.Field
+  is_arrow : PostView s.Arrow p.Arrow
+  is_bump : {sign : SignType} {up : Bool} → bump sign ≡ Some up → PostView sign (p.Bump up)
+
+moved : {sign : SignType} {a b : Post} → PostView sign a → Some a ≡ Some b → PostView sign b
+moved {sign} {a} {b} v h = let g : a ≡ b = cc in subst (λ b. PostView sign b) g v
+
+post_view : (sign : SignType) (said : Post) → post sign ≡ Some said → PostView sign said
+post_view s.LeftBracket said h = moved is_index h
+post_view s.Dot said h = moved is_field h
+post_view s.Arrow said h = moved is_arrow h
+post_view s.PlusPlus said h = moved (is_bump refl) h
+post_view s.MinusMinus said h = moved (is_bump refl) h
+post_view _ said h = cc
+
+bump_post : (sign : SignType) (up : Bool) → bump sign ≡ Some up → post sign ≡ Some (p.Bump up)
+bump_post s.PlusPlus up h = let g : true ≡ up = cc in rw g refl
+bump_post s.MinusMinus up h = let g : false ≡ up = cc in rw g refl
+bump_post _ up h = cc
+
+module _ {spot : Spot} where
+  post_in : {sign : SignType} {said : Post} → PostView sign said → {l : Expr} (v : Expr) (x ys : List Token) {t : Token} → spot_at x ≡ spot → Expression 14 l x → Is (Sign sign) t → post_after spot l said v ys → Expression 14 v (x ++ t ∷ ys)
+  post_in is_index v x _ g d i (then b q) = let p = end_is q in rw (p.0, p.1, append-nil, ← g) (at {n = 14} (index d i b) (omega arith))
+  post_in is_field v x _ g d i (then (a_named j) q) = let p = end_is q in rw (p.0, p.1, ← g) (at {n = 14} (field d i j) (omega arith))
+  post_in is_arrow v x _ g d i (then (a_named j) q) = let p = end_is q in rw (p.0, p.1, ← g) (at {n = 14} (arrow d i j) (omega arith))
+  post_in (is_bump h) v x ys g d i q = let p = end_is q in rw (p.0, p.1, ← g) (at {n = 14} (bumped d i h) (omega arith))
+
+  posts_in : {l v : Expr} (x : List Token) {y : List Token} → spot_at x ≡ spot → Expression 14 l x → posts spot l v y → Expression 14 v (x ++ y)
+  posts_in x g d at_last = rw append-nil d
+  posts_in x g d (turn {m = m} {t = t} {xs = xs} {ys = ys} (post_step {sign} {said} i h q) r) =
+      rw (← append_assoc x (t ∷ xs) ys) (posts_in (x ++ t ∷ xs) (spot_begun x (t ∷ xs) (begun d) ∙ g) (post_in (post_view sign said h) m x xs g d i q) r)
+
+-- ---- what stands alone
+
+primary_in : {v : Expr} {x : List Token} → primary v x → Expression 15 v x
+primary_in (first (by_leaf (leaf_of d))) = at {n = 15} (leaf d) (omega arith)
+primary_in (first {v = v} (by_size i (then (one j) (then (then {xs = y} ty (then (one {t} k) e1)) e2)))) =
+    let p = end_is e1 in let q = end_is e2 in rw (q.0, q.1, p.0, p.1, append-nil) (at {n = 15} (size i j ty k) (omega arith))
+primary_in (first (by_name i stays)) = at {n = 15} (named i) (omega arith)
+primary_in (first {v = v} (by_name i (goes (call_by j (then (then a (then (one k) e1)) e2))))) =
+    let p = end_is e1 in let q = end_is e2 in rw (q.0, q.1, p.0, p.1, append-nil) (at {n = 15} (call i j a k) (omega arith))
+
+primary_begun : {v : Expr} {x : List Token} → primary v x → Begun x
+primary_begun d = begun (primary_in d)
+
+pub primary_filled : (v : Expr) → primary v [] → ⊥
+primary_filled v d = primary_begun d
+
+leaf_out : {node : ExprNode} {t : Token} → Leaf t.kind node → primary (expr t.spot node) (t ∷ [])
+leaf_out d = first (by_leaf (leaf_of d))
+
+-- ---- the whole
+
+pub operand_in : (v : Expr) (x : List Token) → Operand v x → Expression 13 v x
+operand_in v _ (by_paren {t = a} i (by_cast (then (then {xs = y} ty (then (one {t = b} j) e1)) (then {xs = x} d e2)))) =
+    let p = end_is e1 in let q = end_is e2 in rw (q.0, q.1, p.0, p.1, append-nil, append_assoc y (b ∷ []) x) (at {n = 13} (cast i ty j d) (omega arith))
+operand_in v _ (by_paren {t = a} i (by_inner (then {xs = x} b q))) = lower (omega arith) (posts_in (a ∷ x) refl (at {n = 14} (parens i b) (omega arith)) q)
+operand_in v _ (by_prefix i h (then d e)) = let q = end_is e in rw (q.0, q.1, append-nil) (at {n = 13} (signed i h d) (omega arith))
+operand_in v _ (by_primary (then {xs = x} (placed d) q)) = lower (omega arith) (posts_in x refl (lower (omega arith) (primary_in d)) q)
+
+-- what more may stand after
+data Posted : Expr → List Token → Type 0 where
+  in_parens : {t : Token} {v : Expr} {ys : List Token} → Is (Sign s.LeftParen) t → Then (Before s.RightParen) (λ l. posts t.spot l) v ys → Posted v (t ∷ ys)
+  in_none : {v : Expr} {ys : List Token} → Then (Placed primary) (λ p. posts p.0 p.1) v ys → Posted v ys
+
+posted_operand : {v : Expr} {x : List Token} → Posted v x → Operand v x
+posted_operand (in_parens i q) = by_paren i (by_inner q)
+posted_operand (in_none q) = by_primary q
+
+posted_snoc : {l v : Expr} {t : Token} {x ys : List Token} → Posted l x → PostStep (spot_at x) l t v ys → Posted v (x ++ t ∷ ys)
+posted_snoc {t = t} {ys = ys} (in_parens i (then {xs = a} {zs = b} d q)) st = in_parens i (rw (append_assoc a b (t ∷ ys)) (then d (loop_snoc q st)))
+posted_snoc {l} {v} {t = t} {ys = ys} (in_none (then {xs = a} {zs = b} (placed d) q)) st =
+    let st' = subst (λ spot. PostStep spot l t v ys) (spot_begun a b (primary_begun d)) st in
+    in_none (rw (append_assoc a b (t ∷ ys)) (then (placed d) (loop_snoc q st')))
+
+posted_alone : {v : Expr} {x : List Token} → primary v x → Posted v x
+posted_alone {v} {x} d = let h : Then (Placed primary) (λ p. posts p.0 p.1) v (x ++ []) = then (placed d) at_last in in_none (rw append-nil at h)
+
+posted_out : {n : ℕ} {v : Expr} {x : List Token} → Rule n v x → 14 ≤ n → Posted v x
+posted_out (index {v = v} {i = i} {x = x} {y = y} (at d h) j b) g = posted_snoc (posted_out d h) (post_step j refl (then_end (λ i. expr (spot_at x) (e.Index v i)) i y b))
+posted_out (field {v = v} {x = x} (at d h) i j) g = posted_snoc (posted_out d h) (post_step i refl (then (a_named j) ended))
+posted_out (arrow {v = v} {x = x} (at d h) i j) g = posted_snoc (posted_out d h) (post_step i refl (then (a_named j) ended))
+posted_out (bumped {sign = sign} {up = up} (at d h) i o) g = posted_snoc (posted_out d h) (post_step i (bump_post sign up o) ended)
+posted_out (leaf d) g = posted_alone (leaf_out d)
+posted_out (named i) g = posted_alone (first (by_name i stays))
+posted_out (call {n} {t} i j a k) g = posted_alone (first (by_name i (goes (call_by j (then_end (λ vs. expr t.spot (e.Call n vs)) _ _ (then a (then (one k) ended)))))))
+posted_out (size {t = t} i j ty k) g = posted_alone (first (by_size i (then (one j) (then_end (λ ty. expr t.spot (e.SizeOf ty)) _ _ (then ty (then (one k) ended))))))
+posted_out (parens {a = a} {v = v} {x = x} i b) g =
+    let h : Then (Before s.RightParen) (λ l. posts a.spot l) v (x ++ []) = then b at_last in in_parens i (rw append-nil at h)
+posted_out (assign d i o r) g = absurd (let P : 14 ≤ 1 → ⊥ = λ a. omega arith in P g)
+posted_out (choose d i b z) g = absurd (let P : 14 ≤ 2 → ⊥ = λ a. omega arith in P g)
+posted_out (operation {n} {sign} d i o r) g = let b = operator_level sign n _ o in absurd (let P : 14 ≤ n → n ≤ 12 → ⊥ = λ a b. omega arith in P g b.1)
+posted_out (signed i o d) g = absurd (let P : 14 ≤ 13 → ⊥ = λ a. omega arith in P g)
+posted_out (cast i ty j d) g = absurd (let P : 14 ≤ 13 → ⊥ = λ a. omega arith in P g)
+
+pub operand_out : (v : Expr) (x : List Token) → Expression 13 v x → Operand v x
+operand_out v _ (at (signed {op = op} {t = t} {v = w} {x = x} i o d) g) = by_prefix i o (then_end (λ w. expr t.spot (prefixed op w)) w x d)
+operand_out v _ (at (cast {a = a} {b = b} {to = to} {v = w} {x = x} {y = y} i ty j d) g) =
+    by_paren i (by_cast (rw (← append_assoc y (b ∷ []) x) (then (then ty (then (one j) ended)) (then_end (λ w. expr a.spot (e.Cast to w)) w x d))))
+operand_out v _ (at (assign d i o r) g) = absurd (let P : 13 ≤ 1 → ⊥ = λ a. omega arith in P g)
+operand_out v _ (at (choose d i b z) g) = absurd (let P : 13 ≤ 2 → ⊥ = λ a. omega arith in P g)
+operand_out v _ (at (operation {n} {sign} d i o r) g) = let b = operator_level sign n _ o in absurd (let P : 13 ≤ n → n ≤ 12 → ⊥ = λ a b. omega arith in P g b.1)
+operand_out v x (at d g) = posted_operand (posted_out d (omega arith))

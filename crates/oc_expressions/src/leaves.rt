@@ -1,0 +1,108 @@
+//! Expressions of one token, and nodes.
+
+ghost use Rattle.std.specs.Prelude.{◌≡◌, MatchOption, IfOk};
+ghost use Rattle.oc_tree.specs.declared.parsed.Expr.{Expr};
+ghost use Rattle.oc_tree.specs.declared.parsed.ExprNode.{ExprNode};
+ghost use Rattle.oc_grammar.specs.Trees.{expr, prefixed as prefixed_node, joined as joined_node, Leaf};
+ghost use Rattle.oc_expressions.specs.Parts.{LeafOf};
+
+use oc_grammar::tables::{Joint, Prefix};
+use oc_lexer::{Keyword, Token, TokenKind};
+use oc_tree::parsed::{Expr, ExprNode};
+use oc_tree::{IntKind, Literal, Spot};
+use oc_values::{Boxed, Name, NoMemory};
+use std::alloc::{AllocError, Global};
+
+/// A node at a spot.
+pub fn boxed(alloc: Global, spot: Spot, node: ExprNode) -> Result<Boxed<Expr>, AllocError>
+    ensures { IfOk result (λ made. made ≡ expr spot node) }
+{
+    Boxed::new(alloc, Expr { spot, node })
+}
+
+/// An operand after a sign.
+pub fn prefixed(
+    alloc: Global,
+    spot: Spot,
+    prefix: Prefix,
+    part: Boxed<Expr>,
+) -> Result<Boxed<Expr>, AllocError>
+    ensures { IfOk result (λ made. made ≡ expr spot (prefixed_node prefix part)) }
+{
+    match prefix {
+        Prefix::Unary(op) => boxed(alloc, spot, ExprNode::Unary { op, part }),
+        Prefix::Bump(up) => {
+            let node = ExprNode::Bump {
+                up,
+                before: true,
+                part,
+            };
+            boxed(alloc, spot, node)
+        }
+    }
+}
+
+/// Two operands with a sign between them.
+pub fn joined(
+    alloc: Global,
+    spot: Spot,
+    joint: Joint,
+    left: Boxed<Expr>,
+    right: Boxed<Expr>,
+) -> Result<Boxed<Expr>, AllocError>
+    ensures { IfOk result (λ made. made ≡ expr spot (joined_node joint left right)) }
+{
+    match joint {
+        Joint::Binary(op) => boxed(alloc, spot, ExprNode::Binary { op, left, right }),
+        Joint::Logic(all) => boxed(alloc, spot, ExprNode::Logic { all, left, right }),
+    }
+}
+
+// A small number, of the kind of a character.
+fn small(value: u8) -> Literal
+    ensures kind { result.kind ≡ IntKind.I32 }
+    ensures value { result.value ≡ value }
+{
+    Literal {
+        kind: IntKind::I32,
+        value: u64::from(value),
+    }
+}
+
+// The expression that a keyword is by itself.
+fn word_node(word: Keyword) -> Option<ExprNode>
+    ensures { MatchOption result ((node : ExprNode) → Leaf (TokenKind.Keyword word) node → ⊥) (λ node. Leaf (TokenKind.Keyword word) node) }
+{
+    match word {
+        Keyword::Null => Some(ExprNode::NullPointer),
+        Keyword::True => Some(ExprNode::Number(small(1))),
+        Keyword::False => Some(ExprNode::Number(small(0))),
+        _ => None,
+    }
+}
+
+// The expression that a token is by itself.
+fn leaf_node(alloc: Global, kind: &TokenKind) -> Result<Option<ExprNode>, NoMemory>
+    ensures { IfOk result (λ found. MatchOption found ((node : ExprNode) → Leaf kind.now node → ⊥) (λ node. Leaf kind.now node)) }
+{
+    match kind {
+        TokenKind::Number(literal) => Ok(Some(ExprNode::Number(*literal))),
+        TokenKind::Character(byte) => Ok(Some(ExprNode::Number(small(*byte)))),
+        TokenKind::Text(text) => {
+            let text = Name::from_bytes(alloc, text.as_bytes())?;
+            Ok(Some(ExprNode::Text(text)))
+        }
+        TokenKind::Keyword(word) => Ok(word_node(*word)),
+        TokenKind::Name(_) | TokenKind::Sign(_) => Ok(None),
+    }
+}
+
+/// The expression that a token is by itself: a number, a character, a text, `NULL`, `true` or `false`.
+pub fn leaf(alloc: Global, token: &Token) -> Result<Option<Boxed<Expr>>, NoMemory>
+    ensures { IfOk result (λ found. MatchOption found ((v : Expr) → LeafOf token.now v → ⊥) (λ made. LeafOf token.now made)) }
+{
+    match leaf_node(alloc, &token.kind)? {
+        Some(node) => Ok(Some(boxed(alloc, token.spot, node)?)),
+        None => Ok(None),
+    }
+}

@@ -1,0 +1,6 @@
+//! Reading expressions.
+#![tactic(auto)]
+
+pub mod expressions;
+mod leaves;
+pub mod signs;

@@ -1,0 +1,5 @@
+pub mod Reading
+pub mod Calls
+pub mod OpenEnds
+pub mod Views
+pub mod Lists

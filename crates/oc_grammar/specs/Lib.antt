@@ -1,0 +1,10 @@
+pub mod Tokens
+pub mod Reading
+pub mod Calls
+pub mod Tables
+pub mod Trees
+pub mod WrittenTypes
+pub mod Expressions
+pub mod Open
+pub mod Statements
+pub mod Headings

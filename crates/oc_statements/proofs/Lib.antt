@@ -1,0 +1,4 @@
+pub mod Declaring
+pub mod Headers
+pub mod Lone
+pub mod Grammar
