@@ -18,7 +18,7 @@ use Rattle.oc_grammar.specs.Reading.{End, Then}
 use Rattle.oc_grammar.specs.Calls.{One, ANamed}
 use Rattle.oc_grammar.specs.WrittenTypes.{Stars}
 use Rattle.oc_grammar.specs.Headings.{Fields, Struct, struct_def, Parameters, Mark, AfterResult, FunctionSpelled}
-use Rattle.oc_headings.specs.declared.functions.Signature.{Signature}
+use Rattle.oc_headings.specs.declared.functions.Heading.{Heading}
 use Rattle.oc_headings.specs.declared.parts.Part.{Part}
 use Rattle.oc_headings.specs.declared.parts.Part.TheVariants as part
 
@@ -29,9 +29,9 @@ ListEnds v ts = NotNext (Sign s.Comma) ts × NotNext (Sign s.LeftBracket) ts
 -- ---- structs
 
 -- after the fields l: further ones, up to the closing brace
-pub data FieldRun (l : List FieldDef) : List FieldDef → List Token → Type 0 where
-  run_end : {t : Token} → Is (Sign s.RightBrace) t → FieldRun l l (t ∷ [])
-  run_more : {fs gs : List FieldDef} {x y : List Token} → Fields fs x → FieldRun (l ++ fs) gs y → FieldRun l gs (x ++ y)
+pub data FieldRun : List FieldDef → List FieldDef → List Token → Type 0 where
+  run_end : {l : List FieldDef} {t : Token} → Is (Sign s.RightBrace) t → FieldRun l l (t ∷ [])
+  run_more : {l fs gs : List FieldDef} {x y : List Token} → Fields fs x → FieldRun (l ++ fs) gs y → FieldRun l gs (x ++ y)
 
 -- fields up to the closing brace
 abbrev pub closed_fields : List FieldDef → List Token → Type 0
@@ -51,12 +51,12 @@ closed_parameters = Then Parameters (λ ps. Then (One (Sign s.RightParen)) (λ _
 abbrev pub NoObliv : {A : Type 0} → A → List Token → Type 0
 NoObliv v ts = NotNext (Keyword w.Obliv) ts
 
-abbrev pub signature_of : Named → List Param → Bool → Signature
-signature_of n ps mark = record { named = n; params = ps; obliv = mark }
+abbrev pub heading : Named → List Param → Bool → Heading
+heading n ps mark = record { named = n; params = ps; obliv = mark }
 
 -- between the result of a function and its body
-abbrev pub signature : Signature → List Token → Type 0
-signature = Then ANamed (λ n. Then (One (Sign s.LeftParen)) (λ _. Then closed_parameters (λ ps. Then Mark (λ m. End (signature_of n ps m)))))
+abbrev pub signature : Heading → List Token → Type 0
+signature = Then ANamed (λ n. Then (One (Sign s.LeftParen)) (λ _. Then closed_parameters (λ ps. Then Mark (λ m. End (heading n ps m)))))
 
 -- after the result of a function
 abbrev pub function_after : Option TypeName → Part → List Token → Type 0

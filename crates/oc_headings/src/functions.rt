@@ -17,7 +17,7 @@ use std::alloc::Global;
 
 /// What stands between the result of a function and its body.
 #[derive(Debug, Drop)]
-pub struct Signature {
+pub struct Heading {
     pub named: Named,
     pub params: Items<Param>,
     pub obliv: bool,
@@ -37,7 +37,7 @@ fn mark(tokens: &[Token]) -> (bool, &[Token])
 fn signature<'t>(
     alloc: Global,
     tokens: &'t [Token],
-) -> Result<(Signature, &'t [Token]), ParseError<'t>>
+) -> Result<(Heading, &'t [Token]), ParseError<'t>>
     ensures reads { Reads signature NoObliv tokens.now result }
     ensures shorter { IfOk result (λ found. length found.1.now < length tokens.now) }
 {
@@ -45,12 +45,12 @@ fn signature<'t>(
     let rest = expect(rest, Sign::LeftParen)?;
     let (params, rest) = closed_parameters(alloc, rest)?;
     let (obliv, rest) = mark(rest);
-    let signature = Signature {
+    let heading = Heading {
         named,
         params,
         obliv,
     };
-    Ok((signature, rest))
+    Ok((heading, rest))
 }
 
 // Reads the body of a function, or the semicolon of a prototype.
@@ -74,19 +74,19 @@ fn body<'t>(
 pub fn function<'t>(
     alloc: Global,
     tokens: &'t [Token],
-    result: Option<TypeName>,
+    returned: Option<TypeName>,
 ) -> Result<(Function, &'t [Token]), ParseError<'t>>
-    ensures reads { Reads (AfterResult result) Any tokens.now result }
+    ensures reads { Reads (AfterResult returned) Any tokens.now result }
     ensures shorter { IfOk result (λ found. length found.1.now < length tokens.now) }
 {
-    let (signature, rest) = signature(alloc, tokens)?;
+    let (heading, rest) = signature(alloc, tokens)?;
     let (body, rest) = body(alloc, rest)?;
     let function = Function {
-        spot: signature.named.spot,
-        name: signature.named.name,
-        result,
-        params: signature.params,
-        obliv: signature.obliv,
+        spot: heading.named.spot,
+        name: heading.named.name,
+        result: returned,
+        params: heading.params,
+        obliv: heading.obliv,
         body,
     };
     Ok((function, rest))

@@ -1,6 +1,6 @@
 //! Reading struct definitions and functions.
 //!
-//! `part` reads one of them. What begins with `struct` and a name may be either, so `part` passes these two
+//! `next_part` reads one of them. What begins with `struct` and a name may be either, so `next_part` passes these two
 //! tokens before it chooses.
 #![tactic(auto)]
 

@@ -93,7 +93,7 @@ fn named_part<'t>(
 }
 
 /// Reads a struct definition or a function.
-pub fn part<'t>(
+pub fn next_part<'t>(
     alloc: Global,
     tokens: &'t [Token],
 ) -> Result<(Part, &'t [Token]), ParseError<'t>>

@@ -8,7 +8,7 @@ ghost use Rattle.oc_parser.specs.Places.{spot_from};
 
 use oc_grammar::ParseError;
 use oc_grammar::taking::next;
-use oc_headings::parts::{Part, part};
+use oc_headings::parts::{Part, next_part};
 use oc_lexer::Token;
 use oc_tree::Spot;
 use oc_tree::parsed::Program;
@@ -60,7 +60,7 @@ pub fn program<'t>(
     };
     let mut rest = tokens;
     while !rest.is_empty() {
-        let (more, after) = part(alloc, rest)?;
+        let (more, after) = next_part(alloc, rest)?;
         found = with_part(found, more)?;
         rest = after;
     }
