@@ -1,2 +1,4 @@
 pub mod Firsts
 pub mod Fields
+pub mod ParameterLists
+pub mod AfterResults
