@@ -5,8 +5,6 @@
 //! makes each operation once over each backend.
 #![tactic(auto)]
 
-ghost use Rattle.std.specs.Prelude.{◌≡◌, length};
-
 use gate_core::{Blank, Gates, PlainBits};
 use std::{env, io};
 use word_circuits::{Word, multiply, quotient, resize};
