@@ -5,5 +5,7 @@ mod item;
 mod name;
 mod node;
 mod read;
+mod scope;
+mod tree;
 
 pub use read::read_first;
