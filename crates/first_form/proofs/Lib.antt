@@ -5,3 +5,13 @@ pub mod Forms
 pub mod Items
 pub mod Statements
 pub mod Sums
+pub mod EndingState
+pub mod EndingNames
+pub mod EndingViews
+pub mod EndingParts
+pub mod EndingSteps
+pub mod EndingItems
+pub mod EndingSample
+pub mod EndingWrap
+pub mod Typings
+pub mod Whole

@@ -27,7 +27,7 @@ whole_statement x node h = ap (stmt x.spot) h
 declarations_agree : (d e : Declared) → st.Declare (d ∷ []) ≡ st.Declare (e ∷ []) → d ≡ e
 declarations_agree d e h = let l : d ∷ [] ≡ e ∷ [] = cc in (firsts d e [] [] l).0
 
-expressions_agree : (x y : Expr) → st.Express x ≡ st.Express y → x ≡ y
+pub expressions_agree : (x y : Expr) → st.Express x ≡ st.Express y → x ≡ y
 expressions_agree x y h = cc
 
 not_both : (ds : List Declared) (x : Expr) → st.Declare ds ≡ st.Express x → ⊥
