@@ -15,3 +15,5 @@ pub mod EndingSample
 pub mod EndingWrap
 pub mod Typings
 pub mod Whole
+pub mod Bodies
+pub mod Mains
