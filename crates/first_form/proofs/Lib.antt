@@ -17,3 +17,4 @@ pub mod Typings
 pub mod Whole
 pub mod Bodies
 pub mod Mains
+pub mod Programs
