@@ -17,3 +17,6 @@ mod tree;
 
 pub use ending::{first_form_ends, first_form_shows};
 pub use read::read_first;
+
+#[cfg(test)]
+mod tests;
