@@ -48,10 +48,11 @@ firsts x y xs ys h = (cc, cc)
 -- ---- numbers
 
 pub number_known : (x : Expr) (n : Literal) (value : ℕ) → x.node ≡ e.Number n → n.kind ≡ I32 → (IsTrue (eqb n.value value) → IsNumber value x) × (IsNumber value x → IsTrue (eqb n.value value))
-number_known x n value h k =
-    (λ t. record { literal = n; whole = whole x (e.Number n) h; kind = k; same = eqb-true n.value value t },
-    λ r. let m : n ≡ r.literal = numbers_agree x.spot x.spot n r.literal (sym (whole x (e.Number n) h) ∙ r.whole) in
-    eq-eqb n.value value (ap (λ (n : Literal). n.value) m ∙ r.same))
+number_known x n value h k = (
+  λ t. record { literal = n; whole = whole x (e.Number n) h; kind = k; same = eqb-true n.value value t },
+  λ r. let m : n ≡ r.literal = numbers_agree x.spot x.spot n r.literal (sym (whole x (e.Number n) h) ∙ r.whole) in
+      eq-eqb n.value value (ap (λ (n : Literal). n.value) m ∙ r.same),
+)
 
 pub number_made : (p : Spot) (n : Literal) → n.kind ≡ I32 → IsNumber n.value (number p n)
 number_made p n k = record { literal = n; whole = refl; kind = k; same = refl }
@@ -65,10 +66,11 @@ number_along x p n k h = subst (IsNumber n.value) (sym h) (number_made p n k)
 -- ---- texts
 
 pub text_known : (x : Expr) (t s text : List ℕ) (b : Bool) → x.node ≡ e.Text t → s ≡ t → b ≡ same_bytes s text → (IsTrue b → x ≡ expr x.spot (e.Text text)) × (x ≡ expr x.spot (e.Text text) → IsTrue b)
-text_known x t s text b h g f =
-    (λ k. whole x (e.Text text) (h ∙ ap e.Text (sym g ∙ same_is s text (sym f ∙ k))),
-    λ k. let m : t ≡ text = (let n : e.Text t ≡ e.Text text = sym h ∙ node_is x x.spot (e.Text text) k in cc) in
-    f ∙ ap (λ u. same_bytes u text) (g ∙ m) ∙ same_self text)
+text_known x t s text b h g f = (
+  λ k. whole x (e.Text text) (h ∙ ap e.Text (sym g ∙ same_is s text (sym f ∙ k))),
+  λ k. let m : t ≡ text = (let n : e.Text t ≡ e.Text text = sym h ∙ node_is x x.spot (e.Text text) k in cc) in
+      f ∙ ap (λ u. same_bytes u text) (g ∙ m) ∙ same_self text,
+)
 
 -- ---- calls
 

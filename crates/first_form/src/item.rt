@@ -1,6 +1,6 @@
 //! Items of a program, each read from its statement.
 
-ghost use Rattle.std.specs.Prelude.{◌≡◌, ℕ, List, [], ◌∷◌, Bool, false, MatchOption};
+ghost use Rattle.std.specs.Prelude.{◌≡◌, ℕ, List, [], ◌∷◌, Bool, true, false, MatchOption, IsTrue, ◌↔◌};
 ghost use Rattle.oc_tree.specs.declared.spot.Spot.{Spot};
 ghost use Rattle.oc_tree.specs.declared.parsed.Expr.{Expr};
 ghost use Rattle.oc_tree.specs.declared.parsed.StmtNode.TheVariants.{Declare, Express};
@@ -94,15 +94,28 @@ fn feed_of(expr: &Expr) -> Option<SourceFeed>
     })
 }
 
+/// Whether a written type begins with `int`.
+fn is_int(kind: &BaseKind) -> bool
+    ensures { IsTrue result ↔ (kind.now ≡ BaseKind.Int IntKind.I32) }
+{
+    match kind {
+        BaseKind::Int(kind) => match kind {
+            IntKind::I32 => true,
+            _ => false,
+        },
+        BaseKind::Struct(_) => false,
+    }
+}
+
 /// The name of a field of type `int`, and whether it is marked as hidden.
 fn int_field(field: &FieldDef) -> Option<(SourceName<'_>, bool)>
     ensures { MatchOption result ((p q : Spot) (hidden : Bool) (name : List ℕ) → field.now ≡ field_at p name (int_base q false hidden IntKind.I32) 0 [] → ⊥) (λ r. FieldRead field.now r.0 r.1) }
 {
-    match &field.base.kind {
-        BaseKind::Int(IntKind::I32) => {}
-        _ => return None,
-    }
-    if field.base.frozen || field.stars != 0 || !field.dims.is_empty() {
+    if !is_int(&field.base.kind)
+        || field.base.frozen
+        || field.stars != 0
+        || !field.dims.is_empty()
+    {
         return None;
     }
     let name = SourceName {
