@@ -144,6 +144,18 @@ lead_view (Keyword w.For) = is_for
 lead_view (Keyword w.Obliv) = is_obliv
 lead_view _ = is_simple
 
+pub tilde_kind : (k : TokenKind) → lead_at k ≡ lead.Tilde → k ≡ Sign s.Tilde
+tilde_kind k e = go (lead_view k) e
+  where
+    go : {k : TokenKind} {l : Lead} → LeadView k l → l ≡ lead.Tilde → k ≡ Sign s.Tilde
+    go is_tilde e = refl
+    go is_block e = cc
+    go is_if e = cc
+    go is_while e = cc
+    go is_for e = cc
+    go is_obliv e = cc
+    go is_simple e = cc
+
 pub simple_in : {v : Stmt} {x : List Token} → Simple v x → Statement v x
 simple_in (shape.empty i) = g.empty i
 simple_in (shape.express d) = g.express d
@@ -154,7 +166,7 @@ simple_in (shape.continues i j) = g.continues i j
 if_in : {t : Token} → Is (Keyword w.If) t → (v : Stmt) (ys : List Token) → if_after t.spot false v ys → Statement v (t ∷ ys)
 if_in {t} i v _ (then {w = c} d q) = let (y, n, e, b) = branches_in t.spot false c q in rw e (g.if i d b)
 
-obliv_in : {t u : Token} → Is (Keyword w.Obliv) t → Is (Keyword w.If) u → (v : Stmt) (ys : List Token) → if_after t.spot true v ys → Statement v (t ∷ (u ∷ ys))
+pub obliv_in : {t u : Token} → Is (Keyword w.Obliv) t → Is (Keyword w.If) u → (v : Stmt) (ys : List Token) → if_after t.spot true v ys → Statement v (t ∷ (u ∷ ys))
 obliv_in {t} i j v _ (then {w = c} d q) = let (y, n, e, b) = branches_in t.spot true c q in rw e (g.obliv_if i j d b)
 
 always_in : {t u : Token} → Is (Sign s.Tilde) t → Is (Keyword w.Obliv) u → (v : Stmt) (ys : List Token) → always_after t.spot v ys → Statement v (t ∷ (u ∷ ys))
