@@ -39,6 +39,12 @@ stmt-returns-in-None-clause-reads t c = mapped _ _ _ _ _ _ _ c.simple.ensures.re
 pub stmt-returns-in-Simple-clause-reads : goal.stmt-returns-in-Simple-clause-reads
 stmt-returns-in-Simple-clause-reads t c = mapped _ _ _ _ _ _ _ c.simple-in-Simple.ensures.reads (λ v r f. turn.simple_found c.in-Some.ensures (sym c.in-Simple.ensures) f) (λ r f. turn.simple_fails c.in-Some.ensures (sym c.in-Simple.ensures) f)
 
+pub stmt-returns-in-None-clause-closed : goal.stmt-returns-in-None-clause-closed
+stmt-returns-in-None-clause-closed t c = turn.simple_closed _ _ c.simple.ensures.reads
+
+pub stmt-returns-in-Simple-clause-closed : goal.stmt-returns-in-Simple-clause-closed
+stmt-returns-in-Simple-clause-closed t c = turn.simple_closed _ _ c.simple-in-Simple.ensures.reads
+
 -- ---- `if`
 
 pub conditional-returns-in_err-cond-clause-reads : goal.conditional-returns-in_err-cond-clause-reads
