@@ -1,5 +1,5 @@
 -- The steps of the calls that read what stands before the parts of a statement.
-use Rattle.std.proofs.Common.{◌≡◌, ℕ, ◌≤◌, ◌<◌, List, [], ◌∷◌, ◌++◌, Option, Some, None, Bool, true, false, refl, sym, ◌∙◌, ap, arith, append-nil, append_assoc, subst}
+use Rattle.std.proofs.Common.{◌≡◌, List, [], ◌∷◌, ◌++◌, Option, Some, None, true, false, refl, sym, ◌∙◌, ap, append-nil, append_assoc, subst}
 use Rattle.oc_tree.specs.declared.parsed.BaseName.{BaseName}
 use Rattle.oc_tree.specs.declared.parsed.Declared.{Declared}
 use Rattle.oc_tree.specs.declared.parsed.Expr.{Expr}
@@ -13,7 +13,7 @@ use Rattle.oc_lexer.specs.declared.token.Sign.TheVariants as s
 use Rattle.oc_grammar.specs.declared.taking.Named.{Named}
 use Rattle.oc_grammar.specs.declared.tables.Opening.TheVariants as o
 use Rattle.oc_grammar.specs.Tokens.{Is, Starts, NotNext}
-use Rattle.oc_grammar.specs.Tables.{strength, opening}
+use Rattle.oc_grammar.specs.Tables.{opening}
 use Rattle.oc_grammar.specs.Reading.{SameNext, Found, Refused, Leaves, Any, End, ended, Then, then, By, first}
 use Rattle.oc_grammar.specs.Calls.{One, one, ANamed, a_named}
 use Rattle.oc_grammar.specs.WrittenTypes.{Base}
@@ -25,7 +25,6 @@ use Rattle.oc_declarators.specs.Forms.{NoWord, BeforeNoWord, base_after}
 use Rattle.oc_declarators.proofs.Marks.{base_out}
 use Rattle.oc_expressions.specs.Parts.{begins, BeginsType}
 use Rattle.oc_expressions.proofs.Levels.{Begun, begun, begun_append, begins_other, some_before}
-use Rattle.oc_statements.specs.declared.simple.Header.{Header}
 use Rattle.oc_statements.specs.Shapes.{names_after, header, header_form, name_form}
 use Rattle.oc_statements.proofs.Declaring.{names_word, some_names}
 

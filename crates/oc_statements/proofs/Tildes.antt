@@ -1,18 +1,16 @@
 -- What follows the sign `~` where a statement begins with it.
-use Rattle.std.proofs.Common.{◌≡◌, ℕ, List, [], ◌∷◌, ◌++◌, Bool, true, false, refl, sym, arith, append_assoc}
+use Rattle.std.proofs.Common.{◌≡◌, ℕ, List, [], ◌∷◌, ◌++◌, refl, arith}
 use Rattle.oc_tree.specs.declared.parsed.Expr.{Expr}
 use Rattle.oc_tree.specs.declared.parsed.Stmt.{Stmt}
-use Rattle.oc_tree.specs.declared.parsed.UnaryOp.TheVariants as u
 use Rattle.oc_lexer.specs.declared.token.Token.{Token}
 use Rattle.oc_lexer.specs.declared.token.TokenKind.{TokenKind}
 use Rattle.oc_lexer.specs.declared.token.TokenKind.TheVariants.{Sign}
 use Rattle.oc_lexer.specs.declared.token.Sign.TheVariants as s
 use Rattle.oc_grammar.specs.Tokens.{Is}
 use Rattle.oc_grammar.specs.Trees.{Leaf, number, character, text, null, truth, falsity}
-use Rattle.oc_grammar.specs.Expressions.{Rule, Expression, Before, before, assign, choose, operation, signed, cast, index, field, arrow, bumped, leaf, named, call, size, parens, at}
+use Rattle.oc_grammar.specs.Expressions.{Rule, Expression, before, assign, choose, operation, signed, cast, index, field, arrow, bumped, leaf, named, call, size, parens, at}
 use Rattle.oc_grammar.proofs.Calls.{made, is_made}
 use Rattle.oc_expressions.proofs.Levels.{Begun, begun, begun_append, some_expr}
-use Rattle.oc_grammar.specs.declared.tables.Prefix.TheVariants as p
 use Rattle.oc_statements.specs.Shapes.{Simple, empty, express, returns, breaks, continues}
 
 -- the first token of a front is that of the whole

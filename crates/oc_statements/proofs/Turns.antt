@@ -1,5 +1,5 @@
 -- The steps of the calls that read statements.
-use Rattle.std.proofs.Common.{◌≡◌, ℕ, List, [], ◌∷◌, ◌++◌, Option, Some, None, Bool, true, false, ◌⊎◌, inl, inr, Result, Ok, Err, IfOk, Bor, refl, sym, ◌∙◌, ap, append-nil, append_assoc, subst}
+use Rattle.std.proofs.Common.{◌≡◌, ℕ, List, [], ◌∷◌, ◌++◌, Some, None, Bool, true, false, ◌⊎◌, inl, inr, Result, Ok, Err, IfOk, Bor, refl, sym, ◌∙◌, ap, append-nil, append_assoc, subst}
 use Rattle.oc_tree.specs.declared.spot.Spot.{Spot}
 use Rattle.oc_tree.specs.declared.parsed.BaseName.{BaseName}
 use Rattle.oc_tree.specs.declared.parsed.Declared.{Declared}
@@ -24,7 +24,7 @@ use Rattle.oc_grammar.specs.Statements.{Declaration, Condition, Statement, Block
 use Rattle.oc_grammar.specs.Statements as g
 use Rattle.oc_grammar.specs.Open.{open_node, ends_open}
 use Rattle.oc_grammar.proofs.Reading.{start, also, turned, read, fails, ends, through, through_fails, token_on, alone, same_token, taken, by_end, by_left, stricter, stricter_fails, Goes, sure, Closes, close_end, close_then, after_end, end_is}
-use Rattle.oc_grammar.proofs.Calls.{made, is_made, not_next, close_one, placed_found, placed_refused}
+use Rattle.oc_grammar.proofs.Calls.{made, is_made, not_next, placed_found, placed_refused}
 use Rattle.oc_grammar.proofs.OpenEnds.{open-if, open-else, open-obliv_if, open-obliv_else, open-while, open-for}
 use Rattle.oc_declarators.specs.Forms.{BeforeNoWord, base_after, after_obliv}
 use Rattle.oc_declarators.proofs.Marks.{base_in, base_out}
@@ -33,8 +33,8 @@ use Rattle.oc_expressions.proofs.Levels.{Begun, begun_append, begins_other}
 use Rattle.oc_statements.specs.declared.leads.Lead.{Lead}
 use Rattle.oc_statements.specs.declared.leads.Lead.TheVariants as lead
 use Rattle.oc_statements.specs.declared.simple.Header.{Header}
-use Rattle.oc_statements.specs.Shapes.{Simple, lead_at, names_after, declare_after, header_form, name_form, if_node, ElseBy, else_by, if_after, while_after, for_after, always_after, Step, declares, states, Run, run_end, run_more, TildeAfter, by_always, by_simple, stmt_after, OblivAfter, by_if, by_base}
-use Rattle.oc_statements.proofs.Headers.{before_begun, begun_clash, declaration_first, type_not_begun, not_type, some_condition, some_header, some_name, typed, typed_out, typed_in, base_goes}
+use Rattle.oc_statements.specs.Shapes.{Simple, lead_at, declare_after, header_form, name_form, if_node, ElseBy, else_by, if_after, while_after, for_after, always_after, Step, declares, states, Run, run_end, run_more, TildeAfter, by_always, by_simple, stmt_after, OblivAfter, by_if, by_base}
+use Rattle.oc_statements.proofs.Headers.{before_begun, begun_clash, declaration_first, not_type, some_condition, some_name, typed_out, typed_in, base_goes}
 use Rattle.oc_statements.proofs.Declaring.{some_names}
 use Rattle.oc_statements.proofs.Lone.{some_simple, simple_shut}
 use Rattle.oc_statements.proofs.Tildes.{tilde_second, some_tilde}

@@ -1,5 +1,5 @@
-use Rattle.std.proofs.Common.{arith, ap, length, sym, ◌∙◌}
-use Rattle.oc_grammar.proofs.Reading.{start, through, through_fails}
+use Rattle.std.proofs.Common.{arith, sym, ◌∙◌}
+use Rattle.oc_grammar.proofs.Reading.{through, through_fails}
 use Rattle.oc_grammar.proofs.Calls.{error_on, mapped}
 use Rattle.oc_statements.proofs.Turns as turn
 use Rattle.oc_statements.proofs.statements.+stmt.Goals as goal
