@@ -215,9 +215,6 @@ some_cond i = let (c, x, d) = some_perhaps s.Semicolon in close_then c x d (some
 some_parts : Closes (Then Init (λ i. Then (Perhaps s.Semicolon) (λ c. Then (Perhaps s.RightParen) (λ a. End (header i c a)))))
 some_parts = let (i, x, d) = some_init in close_then i x d (some_cond i)
 
-pub some_header : Closes header_form
-some_header = close_one (Sign s.LeftParen) some_parts
-
 module _ {ts : List Token} where
   pub open_fails : {r : List Token} → Refused (One (Sign s.LeftParen)) Any ts r → Refused header_form Any ts r
   open_fails f = fails (start header_form Any ts) f (sure (λ u. some_parts))
@@ -253,9 +250,6 @@ some_close n = close_one (Sign s.RightParen) close_end
 
 some_inner : Closes (Then ANamed (λ n. Then (One (Sign s.RightParen)) (λ _. End n.name)))
 some_inner = let n : Named = record { spot = (made (Name [])).spot; name = [] } in close_then n (made (Name []) ∷ []) (a_named (is_made (Name []))) (some_close n)
-
-pub some_name : Closes name_form
-some_name = close_one (Sign s.LeftParen) some_inner
 
 module _ {ts : List Token} where
   pub name_open_fails : {r : List Token} → Refused (One (Sign s.LeftParen)) Any ts r → Refused name_form Any ts r
