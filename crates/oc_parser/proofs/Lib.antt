@@ -1,2 +1,4 @@
 pub mod Totals
 pub mod Loads
+pub mod Wholes
+pub mod Faulty

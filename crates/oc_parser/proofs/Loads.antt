@@ -62,6 +62,3 @@ module _ {ts : List Token} {s : Stack} where
 
   pub light : Passed ts s [] → IsLight ts
   light p = λ k. rw (p.loads, append-nil) (small_at p.light k p.small)
-
-pub nothing : (ts : List Token) (s : Stack) → loads ts ≡ loads_after s ts → Passed ts s ts
-nothing ts s e = record { front = []; light = []; whole = refl; loads = e; same = refl; small = tt }
