@@ -1,5 +1,8 @@
 -- The first place at which a list goes wrong.
-use Rattle.std.proofs.Common.{◌≡◌, ℕ, zero, suc, ◌+◌, ◌≤◌, ◌<◌, ◌⊎◌, inl, inr, length, List, [], ◌∷◌, ◌++◌, refl, sym, ◌∙◌, ap, append_assoc, append-nil, subst, arith, take, drop, length-append}
+use Rattle.std.proofs.Common.{◌≡◌, ℕ, zero, suc, ◌+◌, ◌≤◌, ◌<◌, length, List, [], ◌∷◌, ◌++◌, refl, sym, ◌∙◌, ap, append_assoc, append-nil, subst, arith, take, drop, length-append}
+use Rattle.std.proofs.Math.Logic.{⊎_elim}
+use Rattle.std.proofs.Math.Nat.{eq-or-lt_of_le}
+use Rattle.std.proofs.lemmas.Bool.{cases_lt}
 use Rattle.oc_grammar.specs.Reading.{SameNext, Found, Refused}
 use Rattle.oc_parser.specs.Refusals.{Begins, IsFault}
 
@@ -62,14 +65,24 @@ module _ {X A B : Type 0} {form : A → List X → Type 0} {form' : B → List X
     at_end = λ e. let (b, n) = f.at_end e in (begins ts p b, λ w d. n (back w ts d).0 (back w ts d).1);
   }
 
+take_drop : {X : Type 0} (n : ℕ) (xs : List X) → take n xs ++ drop n xs ≡ xs
+take_drop zero xs = refl
+take_drop (suc n) [] = refl
+take_drop (suc n) (x ∷ xs) = ap (λ xs. x ∷ xs) (take_drop n xs)
+
 module _ {X A : Type 0} {form : A → List X → Type 0} {ts : List X} where
   -- a list that spells a value has no fault
   pub spelled_no_fault : (v : A) (p : ℕ) → form v ts → IsFault form ts p → ⊥
-  spelled_no_fault v p d f = go (omega arith)
-    where
-      go : (p < length ts) ⊎ (p ≡ length ts) → ⊥
-      go c = ?
+  spelled_no_fault v p d f =
+      ⊎_elim
+      (λ e. (f.at_end e).1 v d)
+      (λ lt. f.there lt (v, drop (suc p) ts, subst (λ x. form v x) (sym (take_drop (suc p) ts)) d))
+      (eq-or-lt_of_le f.within)
 
   -- and no two
   pub one_fault : (p q : ℕ) → IsFault form ts p → IsFault form ts q → p ≡ q
-  one_fault p q f g = ?
+  one_fault p q f g =
+      ⊎_elim
+      (λ lt. absurd (f.there (omega (arith, g.within)) (g.before p lt)))
+      (λ le. ⊎_elim (λ e. sym e) (λ lt. absurd (g.there (omega (arith, f.within)) (f.before q lt))) (eq-or-lt_of_le le))
+      (cases_lt p q)
