@@ -1,5 +1,5 @@
 -- Shapes: what is left of a statement after its first tokens.
-use Rattle.std.specs.Prelude.{◌≡◌, List, [], ◌∷◌, ◌++◌, Bool, true, false, Option, Some, None}
+use Rattle.std.specs.Prelude.{◌≡◌, ℕ, List, [], ◌∷◌, ◌++◌, Bool, true, false, Option, Some, None}
 use Rattle.oc_tree.specs.declared.spot.Spot.{Spot}
 use Rattle.oc_tree.specs.declared.parsed.BaseName.{BaseName}
 use Rattle.oc_tree.specs.declared.parsed.FieldDef.{FieldDef}
@@ -11,18 +11,17 @@ use Rattle.oc_tree.specs.declared.parsed.StmtNode.TheVariants as st
 use Rattle.oc_tree.specs.declared.parsed.ForInit.{ForInit}
 use Rattle.oc_lexer.specs.declared.token.Token.{Token}
 use Rattle.oc_lexer.specs.declared.token.TokenKind.{TokenKind}
-use Rattle.oc_lexer.specs.declared.token.TokenKind.TheVariants.{Name, Keyword, Sign}
+use Rattle.oc_lexer.specs.declared.token.TokenKind.TheVariants.{Keyword, Sign}
 use Rattle.oc_lexer.specs.declared.token.Keyword.TheVariants as w
-use Rattle.oc_lexer.specs.declared.token.Sign.{Sign as SignType}
 use Rattle.oc_lexer.specs.declared.token.Sign.TheVariants as s
 use Rattle.oc_grammar.specs.Tokens.{Is, NotNext, spot_at}
 use Rattle.oc_grammar.specs.Tables.{opening}
 use Rattle.oc_grammar.specs.Trees.{stmt, declared}
 use Rattle.oc_grammar.specs.Reading.{End, Then, By, Maybe}
 use Rattle.oc_grammar.specs.Calls.{One, ANamed, Placed}
-use Rattle.oc_grammar.specs.WrittenTypes.{Declr, Commas}
+use Rattle.oc_grammar.specs.WrittenTypes.{Commas}
 use Rattle.oc_grammar.specs.Expressions.{Expression, Before, Stops}
-use Rattle.oc_grammar.specs.Statements.{Initialised, Declaration, Condition, Perhaps, Init, Statement, Branches, Block, Steps}
+use Rattle.oc_grammar.specs.Statements.{Initialised, Declaration, Condition, Perhaps, Init, Statement, Block}
 use Rattle.oc_grammar.specs.Open.{ends_open}
 use Rattle.oc_declarators.specs.Forms.{after_obliv as base_after_obliv}
 use Rattle.oc_statements.specs.declared.leads.Lead.{Lead}
@@ -81,7 +80,7 @@ abbrev pub header_form : Header → List Token → Type 0
 header_form = Then (One (Sign s.LeftParen)) (λ _. Then Init (λ i. Then (Perhaps s.Semicolon) (λ c. Then (Perhaps s.RightParen) (λ a. End (header i c a)))))
 
 -- a name in parentheses
-abbrev pub name_form : List _ → List Token → Type 0
+abbrev pub name_form : List ℕ → List Token → Type 0
 name_form = Then (One (Sign s.LeftParen)) (λ _. Then ANamed (λ n. Then (One (Sign s.RightParen)) (λ _. End n.name)))
 
 -- ---- the others
@@ -115,13 +114,9 @@ while_after spot = Then Condition (λ c. Then Statement (λ b. End (stmt spot (s
 abbrev pub for_after : Spot → Stmt → List Token → Type 0
 for_after spot = Then header_form (λ h. Then Statement (λ b. End (stmt spot (st.For h.init h.cond h.advance b))))
 
--- a block as a statement
-pub data ABlock : Stmt → List Token → Type 0 where
-  a_block : {vs : List Stmt} {x : List Token} → Block vs x → ABlock (stmt (spot_at x) (st.Block vs)) x
-
 -- after `~ obliv`
 abbrev pub always_after : Spot → Stmt → List Token → Type 0
-always_after spot = Then name_form (λ n. Then ABlock (λ b. End (stmt spot (st.Always n b))))
+always_after spot = Then name_form (λ n. Then (Placed Block) (λ p. End (stmt spot (st.Always n (stmt p.0 (st.Block p.1))))))
 
 -- a declaration or a statement
 pub data Step : Stmt → List Token → Type 0 where
@@ -129,9 +124,9 @@ pub data Step : Stmt → List Token → Type 0 where
   states : {v : Stmt} {x : List Token} → Statement v x → Step v x
 
 -- after `{` and the steps l: further ones, up to `}`
-pub data Run (l : List Stmt) : List Stmt → List Token → Type 0 where
-  run_end : {t : Token} → Is (Sign s.RightBrace) t → Run l l (t ∷ [])
-  run_more : {v : Stmt} {vs : List Stmt} {x y : List Token} → Step v x → Run (l ++ v ∷ []) vs y → Run l vs (x ++ y)
+pub data Run : List Stmt → List Stmt → List Token → Type 0 where
+  run_end : {l : List Stmt} {t : Token} → Is (Sign s.RightBrace) t → Run l l (t ∷ [])
+  run_more : {l : List Stmt} {v : Stmt} {vs : List Stmt} {x y : List Token} → Step v x → Run (l ++ v ∷ []) vs y → Run l vs (x ++ y)
 
 abbrev pub block_after : Spot → Stmt → List Token → Type 0
 block_after spot = Then (Run []) (λ vs. End (stmt spot (st.Block vs)))

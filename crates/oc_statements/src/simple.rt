@@ -1,6 +1,7 @@
 //! Statements that have no statements as parts, and parts of others.
 
-ghost use Rattle.std.specs.Prelude.{◌≡◌, ◌<◌, length, IfOk};
+ghost use Rattle.std.specs.Prelude.{◌≡◌, ◌<◌, false, length, IfOk};
+ghost use Rattle.oc_lexer.specs.declared.token.TokenKind.TheVariants as kind;
 ghost use Rattle.oc_grammar.specs.Reading.{Any};
 ghost use Rattle.oc_grammar.specs.Calls.{Reads};
 ghost use Rattle.oc_grammar.specs.Tables.{strength};
@@ -56,8 +57,8 @@ pub fn perhaps<'t>(
     tokens: &'t [Token],
     sign: Sign,
 ) -> Result<(Option<Boxed<Expr>>, &'t [Token]), ParseError<'t>>
-    requires loose { strength (TokenKind.Sign sign) ≡ 0 }
-    requires first { begins (TokenKind.Sign sign) ≡ false }
+    requires loose { strength (kind.Sign sign) ≡ 0 }
+    requires first { begins (kind.Sign sign) ≡ false }
     ensures reads { Reads (Perhaps sign) Any tokens.now result }
     ensures shorter { IfOk result (λ found. length found.1.now < length tokens.now) }
 {
@@ -72,10 +73,7 @@ pub fn perhaps<'t>(
 }
 
 // Reads what the header of a `for` begins with.
-fn init<'t>(
-    alloc: Global,
-    tokens: &'t [Token],
-) -> Result<(ForInit, &'t [Token]), ParseError<'t>>
+fn init<'t>(alloc: Global, tokens: &'t [Token]) -> Result<(ForInit, &'t [Token]), ParseError<'t>>
     ensures reads { Reads Init Any tokens.now result }
     ensures shorter { IfOk result (λ found. length found.1.now < length tokens.now) }
 {
