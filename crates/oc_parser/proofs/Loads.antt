@@ -52,13 +52,14 @@ module _ {ts : List Token} {s : Stack} where
   }
 
   pub heavy : {t : Token} {rest : List Token} → Passed ts s (t ∷ rest) → 1000 < load (counted s) → (p : ℕ) × HeavyAt ts p × ((end : Spot) → t.spot ≡ place_spot end ts p)
-  heavy {t} {rest} p h =
-      (length p.light,
-       record {
-         heavy = rw (p.loads, index_at) h;
-         before = λ q lt. rw p.loads (small_before p.light _ q p.small lt);
-       },
-       λ end. rw (p.whole, p.same, drop_front) refl)
+  heavy {t} {rest} p h = (
+    length p.light,
+    record {
+      heavy = rw (p.loads, index_at) h;
+      before = λ q lt. rw p.loads (small_before p.light _ q p.small lt);
+    },
+    λ end. rw (p.whole, p.same, drop_front) refl,
+  )
 
   pub light : Passed ts s [] → IsLight ts
   light p = λ k. rw (p.loads, append-nil) (small_at p.light k p.small)

@@ -14,3 +14,6 @@ mod programs;
 
 pub use faults::{ParseFault, ParseRule};
 pub use parsing::parse;
+
+#[cfg(test)]
+mod tests;

@@ -17,7 +17,10 @@ use std::alloc::Global;
 const MAX_LOAD: u32 = 1_000;
 
 /// The entry that counts nothing.
-const EMPTY: Entry = Entry { count: 0, opened: 0 };
+const EMPTY: Entry = Entry {
+    count: 0,
+    opened: 0,
+};
 
 // What a token does to the stack.
 fn effect_of(kind: &TokenKind) -> Effect
@@ -123,7 +126,11 @@ fn emptied(counts: Counts, stays: bool) -> Counts
     ensures stack { stack_of result ≡ emptied stays (stack_of counts) }
     ensures sum { result.sum ≤ counts.sum }
 {
-    if stays { counts } else { with_top(counts, EMPTY) }
+    if stays {
+        counts
+    } else {
+        with_top(counts, EMPTY)
+    }
 }
 
 // After a token with this effect, where an `else` comes next or not.
