@@ -32,8 +32,8 @@ pub fn stars(tokens: &[Token]) -> Result<(u32, &[Token]), ParseError<'_>>
     Ok((count, rest))
 }
 
-// Reads a number and a closing bracket.
-fn length(tokens: &[Token]) -> Result<(u64, &[Token]), ParseError<'_>>
+/// Reads a number and a closing bracket.
+pub fn length(tokens: &[Token]) -> Result<(u64, &[Token]), ParseError<'_>>
     ensures reads { Reads dim_rest Any tokens.now result }
     ensures shorter { IfOk result (λ found. length found.1.now < length tokens.now) }
 {
