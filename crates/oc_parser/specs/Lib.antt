@@ -2,5 +2,4 @@ pub mod Places
 pub mod Load
 pub mod Refusals
 pub mod Programs
-pub mod Narrow
 pub mod Stacks

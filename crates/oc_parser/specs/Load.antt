@@ -17,7 +17,7 @@ pub record Stack : Type 0 where
   pub below : List Entry
 
 abbrev pub entry : ℕ → ℕ → Entry
-entry count open = record { count = count; open = open }
+entry count opened = record { count = count; opened = opened }
 
 abbrev pub stack : Entry → List Entry → Stack
 stack top below = record { top = top; below = below }
@@ -31,7 +31,7 @@ load s = s.top.count + total s.below
 
 -- the top count rises by one
 abbrev pub counted : Stack → Stack
-counted s = stack (entry (s.top.count + 1) s.top.open) s.below
+counted s = stack (entry (s.top.count + 1) s.top.opened) s.below
 
 -- what a token does to the stack after it was counted
 abbrev pub effect_of : TokenKind → Effect
@@ -63,11 +63,11 @@ emptied false s = stack (entry 0 0) s.below
 
 -- after a token with this effect, where an `else` comes next or not
 abbrev pub passed : Effect → Bool → Stack → Stack
-passed effect.Open else_next s = stack (entry s.top.count (s.top.open + 1)) s.below
-passed effect.Close else_next s = stack (entry s.top.count (s.top.open - 1)) s.below
+passed effect.Open else_next s = stack (entry s.top.count (s.top.opened + 1)) s.below
+passed effect.Close else_next s = stack (entry s.top.count (s.top.opened - 1)) s.below
 passed effect.Enter else_next s = entered s
 passed effect.Leave else_next s = emptied else_next (popped s)
-passed effect.Finish else_next s = emptied (else_next || nat_lt 0 s.top.open) s
+passed effect.Finish else_next s = emptied (else_next || nat_lt 0 s.top.opened) s
 passed effect.Nothing else_next s = s
 
 abbrev pub is_else : TokenKind → Bool

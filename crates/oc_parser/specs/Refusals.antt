@@ -3,10 +3,10 @@ use Rattle.std.specs.Prelude.{◌≡◌, ℕ, suc, ◌<◌, ◌≤◌, List, ◌
 use Rattle.oc_tree.specs.declared.spot.Spot.{Spot}
 use Rattle.oc_lexer.specs.declared.token.Lexed.{Lexed}
 use Rattle.oc_grammar.specs.Headings.{Derives}
-use Rattle.oc_parser.specs.declared.ParseRule.{ParseRule}
-use Rattle.oc_parser.specs.declared.ParseRule.TheVariants.{G1, G2}
-use Rattle.oc_parser.specs.declared.ParseFault.{ParseFault}
-use Rattle.oc_parser.specs.declared.ParseFault.TheVariants.{Refused, NoMemory}
+use Rattle.oc_parser.specs.declared.faults.ParseRule.{ParseRule}
+use Rattle.oc_parser.specs.declared.faults.ParseRule.TheVariants.{G1, G2}
+use Rattle.oc_parser.specs.declared.faults.ParseFault.{ParseFault}
+use Rattle.oc_parser.specs.declared.faults.ParseFault.TheVariants.{Refused, NoMemory}
 use Rattle.oc_parser.specs.Places.{place_spot}
 use Rattle.oc_parser.specs.Load.{IsLight, HeavyAt}
 

@@ -1,8 +1,8 @@
 //! The stack of entries that counts what is open.
 
-ghost use Rattle.std.specs.Prelude.{◌≡◌, ◌+◌, [], ◌∷◌, ◌++◌};
+ghost use Rattle.std.specs.Prelude.{◌≡◌, ◌+◌, ◌≤◌};
+ghost use Rattle.std.specs.List.{All};
 ghost use Rattle.oc_parser.specs.Load.{total};
-ghost use Rattle.oc_parser.specs.Narrow.{AllNarrow};
 
 use oc_values::Items;
 
@@ -26,7 +26,7 @@ pub enum Effect {
 #[derive(Clone, Copy, Debug, PartialEq, Eq)]
 pub struct Entry {
     pub count: u32,
-    pub open: u32,
+    pub opened: u32,
 }
 
 /// The stack: its top entry, those below it with the nearest one last, and the sum of all counts.
@@ -36,5 +36,6 @@ pub struct Counts {
     pub below: Items<Entry>,
     pub sum: u32,
     ghost summed: { sum ≡ top.count + total below },
-    ghost narrow: { AllNarrow (top ∷ below) },
+    ghost narrow: { top.opened ≤ top.count },
+    ghost all_narrow: { All (λ e. e.opened ≤ e.count) below },
 }

@@ -17,7 +17,10 @@ use std::alloc::Global;
 const MAX_LOAD: u32 = 1_000;
 
 /// The entry that counts nothing.
-const EMPTY: Entry = Entry { count: 0, open: 0 };
+const EMPTY: Entry = Entry {
+    count: 0,
+    opened: 0,
+};
 
 // What a token does to the stack.
 fn effect_of(kind: &TokenKind) -> Effect
@@ -52,7 +55,7 @@ fn is_else_next(tokens: &[Token]) -> bool
 
 // With another top entry.
 fn with_top(counts: Counts, top: Entry) -> Counts
-    requires narrow { top.open ≤ top.count }
+    requires narrow { top.opened ≤ top.count }
     requires small { top.count ≤ counts.top.count + 1 }
     requires light { counts.sum ≤ 1000 }
     ensures stack { stack_of result ≡ stack top (stack_of counts).below }
@@ -70,11 +73,11 @@ fn counted(counts: Counts) -> Counts
     requires { counts.sum ≤ 1000 }
     ensures stack { stack_of result ≡ counted (stack_of counts) }
     ensures sum { result.sum ≡ counts.sum + 1 }
-    ensures narrow { result.top.open < result.top.count }
+    ensures narrow { result.top.opened < result.top.count }
 {
     let top = Entry {
         count: counts.top.count + 1,
-        open: counts.top.open,
+        opened: counts.top.opened,
     };
     with_top(counts, top)
 }
@@ -107,13 +110,13 @@ fn popped(counts: Counts) -> Counts
         mut below,
         sum,
     } = counts;
-    match below.pop() {
-        Some(next) => Counts {
-            top: next,
-            below,
-            sum: sum - top.count,
-        },
-        None => Counts { top, below, sum },
+    let Some(next) = below.pop() else {
+        return Counts { top, below, sum };
+    };
+    Counts {
+        top: next,
+        below,
+        sum: sum - top.count,
     }
 }
 
@@ -123,35 +126,39 @@ fn emptied(counts: Counts, stays: bool) -> Counts
     ensures stack { stack_of result ≡ emptied stays (stack_of counts) }
     ensures sum { result.sum ≤ counts.sum }
 {
-    if stays { counts } else { with_top(counts, EMPTY) }
+    if stays {
+        counts
+    } else {
+        with_top(counts, EMPTY)
+    }
 }
 
 // After a token with this effect, where an `else` comes next or not.
 fn passed(counts: Counts, effect: Effect, else_next: bool) -> Result<Counts, NoMemory>
     requires light { counts.sum ≤ 1000 }
-    requires narrow { counts.top.open < counts.top.count }
+    requires narrow { counts.top.opened < counts.top.count }
     ensures stack { IfOk result (λ after. stack_of after ≡ passed effect else_next (stack_of counts)) }
     ensures sum { IfOk result (λ after. after.sum ≤ counts.sum) }
 {
-    let Entry { count, open } = counts.top;
+    let Entry { count, opened } = counts.top;
     match effect {
         Effect::Open => Ok(with_top(
             counts,
             Entry {
                 count,
-                open: open + 1,
+                opened: opened + 1,
             },
         )),
         Effect::Close => Ok(with_top(
             counts,
             Entry {
                 count,
-                open: open.saturating_sub(1),
+                opened: opened.saturating_sub(1),
             },
         )),
         Effect::Enter => entered(counts),
         Effect::Leave => Ok(emptied(popped(counts), else_next)),
-        Effect::Finish => Ok(emptied(counts, else_next || open > 0)),
+        Effect::Finish => Ok(emptied(counts, else_next || opened > 0)),
         Effect::Nothing => Ok(counts),
     }
 }

@@ -46,11 +46,7 @@ fn with_part(program: Program, part: Part) -> Result<Program, NoMemory>
 }
 
 /// Reads a program with this end, up to its last token.
-pub fn program<'t>(
-    alloc: Global,
-    tokens: &'t [Token],
-    end: Spot,
-) -> Result<Program, ParseError<'t>>
+pub fn program<'t>(alloc: Global, tokens: &'t [Token], end: Spot) -> Result<Program, ParseError<'t>>
     ensures { MatchResult result (λ found. Found (Whole end) AtEnd tokens.now found []) (λ error. Fails (Whole end) AtEnd tokens.now error) }
 {
     let mut found = Program {

@@ -1,25 +1,24 @@
 -- The steps of the calls that read declarations.
-use Rattle.std.proofs.Common.{◌≡◌, ◌≤◌, ◌<◌, List, [], ◌∷◌, ◌++◌, Option, Some, None, refl, arith, append-nil, append_assoc}
+use Rattle.std.proofs.Common.{List, [], ◌∷◌, ◌++◌, Some, None, arith, append-nil, append_assoc}
 use Rattle.oc_tree.specs.declared.parsed.BaseName.{BaseName}
 use Rattle.oc_tree.specs.declared.parsed.FieldDef.{FieldDef}
 use Rattle.oc_tree.specs.declared.parsed.Declared.{Declared}
 use Rattle.oc_tree.specs.declared.parsed.Expr.{Expr}
-use Rattle.oc_tree.specs.declared.parsed.Stmt.{Stmt}
 use Rattle.oc_tree.specs.declared.parsed.StmtNode.TheVariants as st
 use Rattle.oc_lexer.specs.declared.token.Token.{Token}
 use Rattle.oc_lexer.specs.declared.token.TokenKind.TheVariants.{Name, Sign}
 use Rattle.oc_lexer.specs.declared.token.Sign.TheVariants as s
-use Rattle.oc_grammar.specs.Tokens.{Is, Starts, NotNext}
+use Rattle.oc_grammar.specs.Tokens.{Starts, NotNext}
 use Rattle.oc_grammar.specs.Trees.{stmt, field, declared}
-use Rattle.oc_grammar.specs.Reading.{SameNext, Found, Refused, Leaves, Any, End, ended, Then, then, Maybe, stays, goes}
-use Rattle.oc_grammar.specs.Calls.{One, one}
+use Rattle.oc_grammar.specs.Reading.{SameNext, Found, Refused, Leaves, Any, End, Then, then, Maybe, stays, goes}
+use Rattle.oc_grammar.specs.Calls.{One}
 use Rattle.oc_grammar.specs.WrittenTypes.{Declr, declr, no_star, star, no_dim, Commas, last, more}
 use Rattle.oc_grammar.specs.Expressions.{Expression, Stops, Ends}
 use Rattle.oc_grammar.specs.Statements.{Initialised, bare, set}
 use Rattle.oc_grammar.proofs.Reading.{start, turned, read, fails, ends, token_on, alone, Goes, sure, Closes, close_end, close_then, after_end, then_end, end_is}
 use Rattle.oc_grammar.proofs.Calls.{made, is_made, not_next, close_one, after_one}
 use Rattle.oc_declarators.specs.Forms.{NoWord, NoBracket}
-use Rattle.oc_expressions.proofs.Levels.{stops_kind, goes_kind, some_expr}
+use Rattle.oc_expressions.proofs.Levels.{stops_kind, goes_kind}
 use Rattle.oc_statements.specs.Shapes.{SetBy, set_by, NameEnds, NamesEnd, names_after, declare_after}
 
 -- ---- a declared name

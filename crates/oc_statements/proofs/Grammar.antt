@@ -1,5 +1,5 @@
 -- Statements and blocks, by their first tokens.
-use Rattle.std.proofs.Common.{◌≡◌, ℕ, List, [], ◌∷◌, ◌++◌, Option, Some, None, Bool, true, false, ◌⊎◌, inl, inr, refl, sym, ◌∙◌, ap, append-nil, append_assoc, subst}
+use Rattle.std.proofs.Common.{◌≡◌, List, [], ◌∷◌, ◌++◌, Option, Some, None, Bool, true, false, ◌⊎◌, inl, inr, refl, sym, ◌∙◌, ap, append-nil, append_assoc, subst}
 use Rattle.oc_tree.specs.declared.spot.Spot.{Spot}
 use Rattle.oc_tree.specs.declared.parsed.Expr.{Expr}
 use Rattle.oc_tree.specs.declared.parsed.ForInit.{ForInit}
@@ -14,12 +14,10 @@ use Rattle.oc_grammar.specs.declared.tables.Opening.TheVariants as o
 use Rattle.oc_grammar.specs.Tokens.{Is, spot_at}
 use Rattle.oc_grammar.specs.Tables.{opening}
 use Rattle.oc_grammar.specs.Trees.{stmt}
-use Rattle.oc_grammar.specs.Reading.{End, ended, Then, then, By, first, Maybe, stays, goes}
-use Rattle.oc_grammar.specs.Calls.{One, one, a_named, Placed, placed}
-use Rattle.oc_grammar.specs.Expressions.{Before}
+use Rattle.oc_grammar.specs.Reading.{ended, Then, then, By, first, Maybe, stays, goes}
+use Rattle.oc_grammar.specs.Calls.{One, one, a_named, placed}
 use Rattle.oc_grammar.specs.Statements.{Declaration, Condition, Statement, Branches, Block, braces, Steps, no_step, a_declaration, a_statement}
 use Rattle.oc_grammar.specs.Statements as g
-use Rattle.oc_grammar.specs.Open.{ends_open}
 use Rattle.oc_grammar.proofs.Reading.{then_end, end_is}
 use Rattle.oc_expressions.specs.Parts.{begins, BeginsType}
 use Rattle.oc_expressions.proofs.Levels.{Begun}
@@ -29,7 +27,7 @@ use Rattle.oc_statements.specs.declared.simple.Header.{Header}
 use Rattle.oc_statements.specs.declared.leads.Simple.TheVariants as simple
 use Rattle.oc_statements.specs.Shapes.{Simple, simple_lead, lead_at, header, header_form, if_node, ElseBy, else_by, if_after, while_after, for_after, always_after, Step, declares, states, Run, run_end, run_more, TildeAfter, by_always, by_simple, stmt_after}
 use Rattle.oc_statements.specs.Shapes as shape
-use Rattle.oc_statements.proofs.Headers.{before_begun, begun_clash, declaration_first}
+use Rattle.oc_statements.proofs.Headers.{before_begun, declaration_first}
 use Rattle.oc_statements.proofs.Lone.{simple_begun}
 
 -- ---- blocks
@@ -144,6 +142,18 @@ lead_view (Keyword w.For) = is_for
 lead_view (Keyword w.Obliv) = is_obliv
 lead_view _ = is_simple
 
+pub tilde_kind : (k : TokenKind) → lead_at k ≡ lead.Tilde → k ≡ Sign s.Tilde
+tilde_kind k e = go (lead_view k) e
+  where
+    go : {k : TokenKind} {l : Lead} → LeadView k l → l ≡ lead.Tilde → k ≡ Sign s.Tilde
+    go is_tilde e = refl
+    go is_block e = cc
+    go is_if e = cc
+    go is_while e = cc
+    go is_for e = cc
+    go is_obliv e = cc
+    go is_simple e = cc
+
 pub simple_in : {v : Stmt} {x : List Token} → Simple v x → Statement v x
 simple_in (shape.empty i) = g.empty i
 simple_in (shape.express d) = g.express d
@@ -154,7 +164,7 @@ simple_in (shape.continues i j) = g.continues i j
 if_in : {t : Token} → Is (Keyword w.If) t → (v : Stmt) (ys : List Token) → if_after t.spot false v ys → Statement v (t ∷ ys)
 if_in {t} i v _ (then {w = c} d q) = let (y, n, e, b) = branches_in t.spot false c q in rw e (g.if i d b)
 
-obliv_in : {t u : Token} → Is (Keyword w.Obliv) t → Is (Keyword w.If) u → (v : Stmt) (ys : List Token) → if_after t.spot true v ys → Statement v (t ∷ (u ∷ ys))
+pub obliv_in : {t u : Token} → Is (Keyword w.Obliv) t → Is (Keyword w.If) u → (v : Stmt) (ys : List Token) → if_after t.spot true v ys → Statement v (t ∷ (u ∷ ys))
 obliv_in {t} i j v _ (then {w = c} d q) = let (y, n, e, b) = branches_in t.spot true c q in rw e (g.obliv_if i j d b)
 
 always_in : {t u : Token} → Is (Sign s.Tilde) t → Is (Keyword w.Obliv) u → (v : Stmt) (ys : List Token) → always_after t.spot v ys → Statement v (t ∷ (u ∷ ys))

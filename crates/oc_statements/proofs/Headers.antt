@@ -1,5 +1,5 @@
 -- The steps of the calls that read what stands before the parts of a statement.
-use Rattle.std.proofs.Common.{◌≡◌, ℕ, ◌≤◌, ◌<◌, List, [], ◌∷◌, ◌++◌, Option, Some, None, Bool, true, false, refl, sym, ◌∙◌, ap, arith, append-nil, append_assoc, subst}
+use Rattle.std.proofs.Common.{◌≡◌, List, [], ◌∷◌, ◌++◌, Option, Some, None, true, false, refl, sym, ◌∙◌, ap, append-nil, append_assoc, subst}
 use Rattle.oc_tree.specs.declared.parsed.BaseName.{BaseName}
 use Rattle.oc_tree.specs.declared.parsed.Declared.{Declared}
 use Rattle.oc_tree.specs.declared.parsed.Expr.{Expr}
@@ -13,7 +13,7 @@ use Rattle.oc_lexer.specs.declared.token.Sign.TheVariants as s
 use Rattle.oc_grammar.specs.declared.taking.Named.{Named}
 use Rattle.oc_grammar.specs.declared.tables.Opening.TheVariants as o
 use Rattle.oc_grammar.specs.Tokens.{Is, Starts, NotNext}
-use Rattle.oc_grammar.specs.Tables.{strength, opening}
+use Rattle.oc_grammar.specs.Tables.{opening}
 use Rattle.oc_grammar.specs.Reading.{SameNext, Found, Refused, Leaves, Any, End, ended, Then, then, By, first}
 use Rattle.oc_grammar.specs.Calls.{One, one, ANamed, a_named}
 use Rattle.oc_grammar.specs.WrittenTypes.{Base}
@@ -25,7 +25,6 @@ use Rattle.oc_declarators.specs.Forms.{NoWord, BeforeNoWord, base_after}
 use Rattle.oc_declarators.proofs.Marks.{base_out}
 use Rattle.oc_expressions.specs.Parts.{begins, BeginsType}
 use Rattle.oc_expressions.proofs.Levels.{Begun, begun, begun_append, begins_other, some_before}
-use Rattle.oc_statements.specs.declared.simple.Header.{Header}
 use Rattle.oc_statements.specs.Shapes.{names_after, header, header_form, name_form}
 use Rattle.oc_statements.proofs.Declaring.{names_word, some_names}
 
@@ -216,9 +215,6 @@ some_cond i = let (c, x, d) = some_perhaps s.Semicolon in close_then c x d (some
 some_parts : Closes (Then Init (λ i. Then (Perhaps s.Semicolon) (λ c. Then (Perhaps s.RightParen) (λ a. End (header i c a)))))
 some_parts = let (i, x, d) = some_init in close_then i x d (some_cond i)
 
-pub some_header : Closes header_form
-some_header = close_one (Sign s.LeftParen) some_parts
-
 module _ {ts : List Token} where
   pub open_fails : {r : List Token} → Refused (One (Sign s.LeftParen)) Any ts r → Refused header_form Any ts r
   open_fails f = fails (start header_form Any ts) f (sure (λ u. some_parts))
@@ -254,9 +250,6 @@ some_close n = close_one (Sign s.RightParen) close_end
 
 some_inner : Closes (Then ANamed (λ n. Then (One (Sign s.RightParen)) (λ _. End n.name)))
 some_inner = let n : Named = record { spot = (made (Name [])).spot; name = [] } in close_then n (made (Name []) ∷ []) (a_named (is_made (Name []))) (some_close n)
-
-pub some_name : Closes name_form
-some_name = close_one (Sign s.LeftParen) some_inner
 
 module _ {ts : List Token} where
   pub name_open_fails : {r : List Token} → Refused (One (Sign s.LeftParen)) Any ts r → Refused name_form Any ts r

@@ -2,3 +2,9 @@ pub mod Declaring
 pub mod Headers
 pub mod Lone
 pub mod Grammar
+pub mod Tildes
+pub mod Blocks
+pub mod Branching
+pub mod Closing
+pub mod Turns
+pub mod Stepping

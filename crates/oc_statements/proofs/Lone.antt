@@ -1,6 +1,5 @@
 -- The steps of the call that reads a statement without statements as parts.
-use Rattle.std.proofs.Common.{◌≡◌, ℕ, List, [], ◌∷◌, ◌++◌, Option, Some, None, Bool, true, false, refl, sym, ◌∙◌, ap, append-nil, append_assoc, subst}
-use Rattle.oc_tree.specs.declared.spot.Spot.{Spot}
+use Rattle.std.proofs.Common.{◌≡◌, List, [], ◌∷◌, ◌++◌, Option, true, false, refl, sym, ap, append-nil, subst}
 use Rattle.oc_tree.specs.declared.parsed.Expr.{Expr}
 use Rattle.oc_tree.specs.declared.parsed.Stmt.{Stmt}
 use Rattle.oc_tree.specs.declared.parsed.StmtNode.TheVariants as st
@@ -9,14 +8,14 @@ use Rattle.oc_lexer.specs.declared.token.TokenKind.{TokenKind}
 use Rattle.oc_lexer.specs.declared.token.TokenKind.TheVariants.{Name, Number, Character, Text, Keyword, Sign}
 use Rattle.oc_lexer.specs.declared.token.Keyword.TheVariants as w
 use Rattle.oc_lexer.specs.declared.token.Sign.TheVariants as s
-use Rattle.oc_grammar.specs.Tokens.{Is, spot_at}
+use Rattle.oc_grammar.specs.Tokens.{spot_at}
 use Rattle.oc_grammar.specs.Trees.{stmt}
 use Rattle.oc_grammar.specs.Reading.{SameNext, Found, Refused, Leaves, Any, End, ended, Then, then, By, first}
-use Rattle.oc_grammar.specs.Calls.{One, one, Placed, placed}
+use Rattle.oc_grammar.specs.Calls.{One, one, placed}
 use Rattle.oc_grammar.specs.Expressions.{Before}
 use Rattle.oc_grammar.specs.Statements.{Perhaps}
 use Rattle.oc_grammar.specs.Open.{ends_open}
-use Rattle.oc_grammar.proofs.Reading.{start, also, turned, read, fails, ends, same_token, by_end, by_left, Goes, sure, Closes, close_end, then_end, end_is}
+use Rattle.oc_grammar.proofs.Reading.{start, also, turned, read, fails, ends, same_token, by_end, by_left, sure, Closes, close_end, then_end}
 use Rattle.oc_grammar.proofs.Calls.{made, is_made, placed_found, placed_refused}
 use Rattle.oc_grammar.proofs.OpenEnds.{open-empty, open-express, open-return, open-break, open-continue}
 use Rattle.oc_expressions.specs.Parts.{begins}
@@ -24,7 +23,7 @@ use Rattle.oc_expressions.proofs.Levels.{Begun, begun_append}
 use Rattle.oc_statements.specs.declared.leads.Simple.{Simple as SimpleLead}
 use Rattle.oc_statements.specs.declared.leads.Simple.TheVariants as lead
 use Rattle.oc_statements.specs.Shapes.{Simple, empty, express, returns, breaks, continues, simple_lead, expressed}
-use Rattle.oc_statements.proofs.Headers.{before_begun, some_perhaps}
+use Rattle.oc_statements.proofs.Headers.{before_begun}
 
 -- what is left after the first token
 abbrev after : Token → SimpleLead → Stmt → List Token → Type 0

@@ -11,18 +11,17 @@ use Rattle.oc_tree.specs.declared.parsed.StmtNode.TheVariants as st
 use Rattle.oc_tree.specs.declared.parsed.ForInit.{ForInit}
 use Rattle.oc_lexer.specs.declared.token.Token.{Token}
 use Rattle.oc_lexer.specs.declared.token.TokenKind.{TokenKind}
-use Rattle.oc_lexer.specs.declared.token.TokenKind.TheVariants.{Name, Keyword, Sign}
+use Rattle.oc_lexer.specs.declared.token.TokenKind.TheVariants.{Keyword, Sign}
 use Rattle.oc_lexer.specs.declared.token.Keyword.TheVariants as w
-use Rattle.oc_lexer.specs.declared.token.Sign.{Sign as SignType}
 use Rattle.oc_lexer.specs.declared.token.Sign.TheVariants as s
 use Rattle.oc_grammar.specs.Tokens.{Is, NotNext, spot_at}
 use Rattle.oc_grammar.specs.Tables.{opening}
 use Rattle.oc_grammar.specs.Trees.{stmt, declared}
 use Rattle.oc_grammar.specs.Reading.{End, Then, By, Maybe}
 use Rattle.oc_grammar.specs.Calls.{One, ANamed, Placed}
-use Rattle.oc_grammar.specs.WrittenTypes.{Declr, Commas}
+use Rattle.oc_grammar.specs.WrittenTypes.{Commas}
 use Rattle.oc_grammar.specs.Expressions.{Expression, Before, Stops}
-use Rattle.oc_grammar.specs.Statements.{Initialised, Declaration, Condition, Perhaps, Init, Statement, Branches, Block, Steps}
+use Rattle.oc_grammar.specs.Statements.{Initialised, Declaration, Condition, Perhaps, Init, Statement, Block}
 use Rattle.oc_grammar.specs.Open.{ends_open}
 use Rattle.oc_declarators.specs.Forms.{after_obliv as base_after_obliv}
 use Rattle.oc_statements.specs.declared.leads.Lead.{Lead}

@@ -44,10 +44,8 @@ pub fn simple_lead(kind: &TokenKind) -> Simple
             Keyword::Continue => Simple::Continue,
             _ => Simple::Express,
         },
-        TokenKind::Name(_)
-        | TokenKind::Number(_)
-        | TokenKind::Character(_)
-        | TokenKind::Text(_) => Simple::Express,
+        TokenKind::Name(_) | TokenKind::Number(_) | TokenKind::Character(_) | TokenKind::Text(_) =>
+            Simple::Express,
     }
 }
 
@@ -68,9 +66,7 @@ pub fn lead_at(kind: &TokenKind) -> Lead
             Keyword::Obliv => Lead::Obliv,
             _ => Lead::Simple,
         },
-        TokenKind::Name(_)
-        | TokenKind::Number(_)
-        | TokenKind::Character(_)
-        | TokenKind::Text(_) => Lead::Simple,
+        TokenKind::Name(_) | TokenKind::Number(_) | TokenKind::Character(_) | TokenKind::Text(_) =>
+            Lead::Simple,
     }
 }

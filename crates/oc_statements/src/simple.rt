@@ -73,10 +73,7 @@ pub fn perhaps<'t>(
 }
 
 // Reads what the header of a `for` begins with.
-fn init<'t>(
-    alloc: Global,
-    tokens: &'t [Token],
-) -> Result<(ForInit, &'t [Token]), ParseError<'t>>
+fn init<'t>(alloc: Global, tokens: &'t [Token]) -> Result<(ForInit, &'t [Token]), ParseError<'t>>
     ensures reads { Reads Init Any tokens.now result }
     ensures shorter { IfOk result (λ found. length found.1.now < length tokens.now) }
 {

@@ -1,4 +1,4 @@
-use Rattle.std.proofs.Common.{ℕ, ◌+◌, ◌≤◌, ◌*◌, [], length}
+use Rattle.std.proofs.Common.{◌+◌, ◌≤◌, ◌*◌, [], length}
 use Rattle.oc_grammar.specs.Reading.{Leaves, Any}
 use Rattle.oc_statements.specs.Shapes.{Run}
 use Rattle.oc_statements.proofs.statements.+stmt.Given as goal

@@ -1,0 +1,50 @@
+//! From tokens to the tree.
+
+ghost use Rattle.std.specs.Prelude.{◌≡◌, IfOk, IfErr};
+ghost use Rattle.oc_tree.specs.declared.spot.Spot.{Spot};
+ghost use Rattle.oc_tree.specs.declared.parsed.Program.{Program};
+ghost use Rattle.oc_grammar.specs.Headings.{Derives};
+ghost use Rattle.oc_parser.specs.declared.faults.ParseRule.{ParseRule};
+ghost use Rattle.oc_parser.specs.Load.{IsLight};
+ghost use Rattle.oc_parser.specs.Refusals.{Refuses, IfRefused};
+
+use crate::faults::{ParseFault, ParseRule};
+use crate::load::first_heavy;
+use crate::programs::{program, spot_from};
+use oc_grammar::ParseError;
+use oc_lexer::Lexed;
+use oc_tree::parsed::Program;
+use std::alloc::Global;
+
+/// The tree of a source.
+pub fn parse(alloc: Global, lexed: &Lexed) -> Result<Program, ParseFault>
+    // The tokens spell the tree, and it ends where the source does.
+    ensures derives { IfOk result (λ program. Derives program lexed.now.tokens) }
+    ensures end { IfOk result (λ program. program.end ≡ lexed.now.end) }
+    // They spell no other tree, no load is too large, and no rule refuses them.
+    ensures only { IfOk result (λ program. (other : Program) → Derives other lexed.now.tokens → (other.structs ≡ program.structs) × (other.functions ≡ program.functions)) }
+    ensures light { IfOk result (λ program. IsLight lexed.now.tokens) }
+    ensures accepted { IfOk result (λ program. (rule : ParseRule) (spot : Spot) → Refuses lexed.now rule spot → ⊥) }
+
+    // The rule and the spot are those that refuse the tokens.
+    ensures refused { IfErr result (λ fault. IfRefused fault (λ rule spot. Refuses lexed.now rule spot)) }
+    // No other rule or spot refuses them, and they spell no tree without a load that is too large.
+    ensures only_refusal { IfErr result (λ fault. IfRefused fault (λ rule spot. (other : ParseRule) (at : Spot) → Refuses lexed.now other at → (other ≡ rule) × (at ≡ spot))) }
+    ensures none { IfErr result (λ fault. IfRefused fault (λ rule spot. (program : Program) → Derives program lexed.now.tokens → IsLight lexed.now.tokens → ⊥)) }
+{
+    let tokens = lexed.tokens.as_slice();
+    if let Some(spot) = first_heavy(alloc, tokens)? {
+        return Err(ParseFault::Refused {
+            rule: ParseRule::G2,
+            spot,
+        });
+    }
+    match program(alloc, tokens, lexed.end) {
+        Ok(program) => Ok(program),
+        Err(ParseError::Unexpected(rest)) => Err(ParseFault::Refused {
+            rule: ParseRule::G1,
+            spot: spot_from(rest, lexed.end),
+        }),
+        Err(ParseError::NoMemory) => Err(ParseFault::NoMemory),
+    }
+}
