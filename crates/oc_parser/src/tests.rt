@@ -299,13 +299,6 @@ fn expr_text(alloc: Global, expr: &Expr) -> Result<String, AllocError> {
 }
 
 #[cycle(expr_text)]
-fn pair_text(alloc: Global, left: &Boxed<Expr>, right: &Boxed<Expr>) -> Result<String, AllocError> {
-    let left = expr_text(alloc, left.get())?;
-    let right = expr_text(alloc, right.get())?;
-    format!(in alloc; "{left} {right}")
-}
-
-#[cycle(expr_text)]
 fn args_text(alloc: Global, args: &Items<Expr>) -> Result<String, AllocError> {
     let mut text = String::new(alloc);
     for arg in args.as_slice() {
@@ -334,25 +327,30 @@ fn node_text(alloc: Global, node: &ExprNode) -> Result<String, AllocError> {
             format!(in alloc; "Bump {up} {before} {part}")
         }
         ExprNode::Binary { op, left, right } => {
-            let parts = pair_text(alloc, left, right)?;
-            format!(in alloc; "{op:?} {parts}")
+            let left = expr_text(alloc, left.get())?;
+            let right = expr_text(alloc, right.get())?;
+            format!(in alloc; "{op:?} {left} {right}")
         }
         ExprNode::Logic { all, left, right } => {
-            let parts = pair_text(alloc, left, right)?;
-            format!(in alloc; "Logic {all} {parts}")
+            let left = expr_text(alloc, left.get())?;
+            let right = expr_text(alloc, right.get())?;
+            format!(in alloc; "Logic {all} {left} {right}")
         }
         ExprNode::Choose { cond, yes, no } => {
             let cond = expr_text(alloc, cond.get())?;
-            let parts = pair_text(alloc, yes, no)?;
-            format!(in alloc; "Choose {cond} {parts}")
+            let yes = expr_text(alloc, yes.get())?;
+            let no = expr_text(alloc, no.get())?;
+            format!(in alloc; "Choose {cond} {yes} {no}")
         }
         ExprNode::Assign { op, left, right } => {
-            let parts = pair_text(alloc, left, right)?;
-            format!(in alloc; "Assign {op:?} {parts}")
+            let left = expr_text(alloc, left.get())?;
+            let right = expr_text(alloc, right.get())?;
+            format!(in alloc; "Assign {op:?} {left} {right}")
         }
         ExprNode::Index { part, amount } => {
-            let parts = pair_text(alloc, part, amount)?;
-            format!(in alloc; "Index {parts}")
+            let part = expr_text(alloc, part.get())?;
+            let amount = expr_text(alloc, amount.get())?;
+            format!(in alloc; "Index {part} {amount}")
         }
         ExprNode::Field { part, name } => {
             let part = expr_text(alloc, part.get())?;
@@ -431,20 +429,10 @@ fn stmts_text(alloc: Global, stmts: &Items<Stmt>) -> Result<String, AllocError> 
 }
 
 #[cycle(stmt_text)]
-fn branches_text(
-    alloc: Global,
-    cond: &Boxed<Expr>,
-    yes: &Boxed<Stmt>,
-    no: &Option<Boxed<Stmt>>,
-) -> Result<String, AllocError> {
-    let cond = expr_text(alloc, cond.get())?;
-    let yes = stmt_text(alloc, yes.get())?;
+fn no_text(alloc: Global, no: &Option<Boxed<Stmt>>) -> Result<String, AllocError> {
     match no {
-        Some(no) => {
-            let no = stmt_text(alloc, no.get())?;
-            format!(in alloc; "{cond} {yes} {no}")
-        }
-        None => format!(in alloc; "{cond} {yes} -"),
+        Some(no) => stmt_text(alloc, no.get()),
+        None => format!(in alloc; "-"),
     }
 }
 
@@ -464,12 +452,16 @@ fn stmt_node_text(alloc: Global, node: &StmtNode) -> Result<String, AllocError> 
             format!(in alloc; "Block [{stmts}]")
         }
         StmtNode::If { cond, yes, no } => {
-            let parts = branches_text(alloc, cond, yes, no)?;
-            format!(in alloc; "If {parts}")
+            let cond = expr_text(alloc, cond.get())?;
+            let yes = stmt_text(alloc, yes.get())?;
+            let no = no_text(alloc, no)?;
+            format!(in alloc; "If {cond} {yes} {no}")
         }
         StmtNode::OblivIf { cond, yes, no } => {
-            let parts = branches_text(alloc, cond, yes, no)?;
-            format!(in alloc; "OblivIf {parts}")
+            let cond = expr_text(alloc, cond.get())?;
+            let yes = stmt_text(alloc, yes.get())?;
+            let no = no_text(alloc, no)?;
+            format!(in alloc; "OblivIf {cond} {yes} {no}")
         }
         StmtNode::Always { name, body } => {
             let name = name_text(alloc, name)?;
