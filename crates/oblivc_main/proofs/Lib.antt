@@ -7,3 +7,4 @@ pub mod Causes
 pub mod Completing
 pub mod DealFiles
 pub mod DealOptions
+pub mod Refusing

@@ -1,6 +1,7 @@
 //! Reading the files of a command.
 
 ghost use Rattle.std.specs.Prelude.{◌≡◌, ◌≤◌};
+ghost use Rattle.oblivc_main.specs.declared.stop.Stop.TheVariants as stops;
 ghost use Rattle.oblivc_main.specs.Sources.{ReadsTree};
 ghost use Rattle.oblivc_main.specs.Endings.{ReadSource, ReadWord};
 
@@ -21,7 +22,7 @@ const INPUT_LIMIT: u64 = 1_376_277;
 
 /// The end of a command at a refused source.
 fn refused(rule: Rule, spot: Spot) -> Stop
-    ensures { result ≡ StopType.Refused (record { rule = rule; spot = spot }) }
+    ensures { result ≡ stops.Refused (record { rule = rule; spot = spot }) }
 {
     Stop::Refused(Refusal { rule, spot })
 }
