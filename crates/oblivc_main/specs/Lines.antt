@@ -22,7 +22,7 @@ rule_name (Parse G2) = codes "G2"
 rule_name First = codes "X1"
 
 abbrev pub refused_line : Refusal → List ℕ
-refused_line r = codes "refused " ++ rule_name r.rule ++ 32 ∷ decimal r.spot.line ++ 58 ∷ decimal r.spot.column ++ 10 ∷ []
+refused_line r = codes "refused " ++ rule_name r.rule ++ codes " " ++ decimal r.spot.line ++ codes ":" ++ decimal r.spot.column ++ codes "\n"
 
 abbrev pub file_line : List ℕ → List ℕ
 file_line name = codes "file " ++ name ++ 10 ∷ []
