@@ -1,5 +1,5 @@
 -- The one function of a program.
-use Rattle.std.proofs.Common.{◌≡◌, refl, sym, ap, subst, ◌∙◌, ℕ, ◌∷◌, [], List, Option, Some, None, Bool, true, false, length, get_or, arith}
+use Rattle.std.proofs.Common.{◌≡◌, sym, ap, ◌∙◌, ℕ, ◌∷◌, [], List, Option, Some, None, Bool, true, false, length, get_or, arith}
 use Rattle.std.specs.Prelude.{MatchOption, codes}
 use Rattle.std.specs.Borrow.{Bor}
 use Rattle.oc_tree.specs.declared.spot.Spot.{Spot}

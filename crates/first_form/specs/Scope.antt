@@ -1,5 +1,5 @@
 -- The names that are declared, as the reader keeps them, and what it builds of statements after them.
-use Rattle.std.specs.Prelude.{◌≡◌, ◌≤◌, ℕ, zero, suc, List, [], ◌∷◌, ◌++◌, length, map, Some, None, true, false, Bool, ◌&&◌, IsTrue, codes}
+use Rattle.std.specs.Prelude.{◌≡◌, ◌≤◌, ℕ, suc, List, [], ◌∷◌, ◌++◌, length, map, Some, None, true, false, codes}
 use Rattle.oc_values.specs.declared.integers.BinaryOp.{BinaryOp}
 use Rattle.oc_values.specs.declared.integers.IntKind.TheVariants.{I32}
 use Rattle.oc_tree.specs.declared.spot.Spot.{Spot}
@@ -16,7 +16,6 @@ use Rattle.oc_tree.specs.declared.typed.Builtin.TheVariants.{Reveal, Print}
 use Rattle.oc_tree.specs.declared.typed.PrintPiece.TheVariants.{Text, Decimal}
 use Rattle.oc_tree.specs.declared.typed.Stmt.{Stmt}
 use Rattle.oc_tree.specs.declared.typed.TypedFunction.{TypedFunction}
-use Rattle.oc_tree.specs.declared.program.Typed.{Typed}
 use Rattle.oc_tree.specs.Parsed.{expr}
 use Rattle.first_form.specs.declared.node.SourceName.{SourceName}
 use Rattle.first_form.specs.declared.item.SourceItem.{SourceItem}
@@ -24,7 +23,7 @@ use Rattle.first_form.specs.declared.item.SourceItem.TheVariants as source
 use Rattle.first_form.specs.declared.scope.DeclaredName.{DeclaredName}
 use Rattle.first_form.specs.Items.{Item, Named, is_plus_or_minus, is_known, is_new, is_item, are_items, declared_by}
 use Rattle.first_form.specs.Reading.{source_name}
-use Rattle.first_form.specs.Trees.{name_at, parsed, parsed_items, parsed_main, slot_of, int_type, reading, fed, pointing, declaring, calling, statement, statements, slot_type, all_declared, main_function}
+use Rattle.first_form.specs.Trees.{name_at, parsed, parsed_items, slot_of, int_type, reading, fed, pointing, declaring, calling, statement, statements, slot_type, all_declared}
 
 abbrev pub named : DeclaredName → Named
 named d = record { name = d.name.now; hidden = d.hidden }

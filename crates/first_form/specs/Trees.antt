@@ -14,10 +14,9 @@ use Rattle.oc_tree.specs.declared.types.SlotType.{SlotType}
 use Rattle.oc_tree.specs.declared.typed.TExpr.{TExpr}
 use Rattle.oc_tree.specs.declared.typed.TPlace.{TPlace}
 use Rattle.oc_tree.specs.declared.typed.ExprNode.{ExprNode, Number, Read, AddressOf, Binary, Builtin}
-use Rattle.oc_tree.specs.declared.typed.PlaceNode.{PlaceNode, Slot}
+use Rattle.oc_tree.specs.declared.typed.PlaceNode.{Slot}
 use Rattle.oc_tree.specs.declared.typed.Builtin.TheVariants.{Private, Feed, Reveal, Print}
 use Rattle.oc_tree.specs.declared.typed.PrintPiece.TheVariants.{Text, Decimal}
-use Rattle.oc_tree.specs.declared.typed.Declared.{Declared}
 use Rattle.oc_tree.specs.declared.typed.Stmt.{Stmt}
 use Rattle.oc_tree.specs.declared.typed.StmtNode.TheVariants.{Declare, Express}
 use Rattle.oc_tree.specs.declared.typed.TypedFunction.{TypedFunction}
