@@ -8,7 +8,7 @@ use Rattle.oc_tree.specs.declared.types.SlotType.{SlotType}
 use Rattle.oc_tree.specs.declared.typed.Stmt.{Stmt}
 use Rattle.first_form.specs.Items.{Item, Named, is_item, are_items, declared_by}
 use Rattle.first_form.specs.Trees.{first_of, parsed, parsed_items, statement, statements, slot_type, all_declared}
-use Rattle.first_form.specs.Scope.{NoNext, IsNext, NoBody, IsBody}
+use Rattle.first_form.specs.Bodies.{NoNext, IsNext, NoBody, IsBody}
 use Rattle.first_form.proofs.Forms.{firsts}
 use Rattle.first_form.proofs.Whole.{declared_once}
 

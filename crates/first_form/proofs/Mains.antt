@@ -9,7 +9,8 @@ use Rattle.oc_tree.specs.declared.parsed.Function.{Function}
 use Rattle.oc_tree.specs.declared.parsed.Program.{Program}
 use Rattle.oc_tree.specs.declared.parsed.Stmt.{Stmt as ParsedStmt}
 use Rattle.first_form.specs.Items.{same_bytes}
-use Rattle.first_form.specs.Scope.{function_with, IsMain}
+use Rattle.first_form.specs.Bodies.{IsMain}
+use Rattle.first_form.specs.Trees.{function_with}
 use Rattle.first_form.proofs.Names.{same_is}
 use Rattle.first_form.proofs.Forms.{firsts}
 use Rattle.first_form.proofs.Statements.{only_one}

@@ -21,7 +21,8 @@ use Rattle.first_form.specs.declared.item.SourceReveal.{SourceReveal}
 use Rattle.first_form.specs.Items.{Item, Feeds, Declares, Reveals, Prints, Summand, Named, same_bytes, is_known, is_new, is_summand, is_item, declared_by}
 use Rattle.first_form.specs.Trees.{at, name_at, call, revealing, printing, parsed, sum, summed, slot_of, reading, fed, pointing, declaring, calling}
 use Rattle.first_form.specs.Reading.{ItemRead, source_of}
-use Rattle.first_form.specs.Scope.{declared_of, reads, Sums, one, Builds, NoNext, IsNext}
+use Rattle.first_form.specs.Scope.{declared_of, reads, Sums, one, Builds}
+use Rattle.first_form.specs.Bodies.{NoNext, IsNext}
 use Rattle.first_form.proofs.Names.{same_self}
 use Rattle.first_form.proofs.Forms.{calls_agree, names_agree, addresses_agree, two_same, three_same}
 use Rattle.first_form.proofs.Statements.{statements_agree, expressions_agree}
