@@ -1,6 +1,5 @@
 -- Items one after another, as the reader goes through a body.
-use Rattle.std.proofs.Common.{◌≡◌, ◌≤◌, ◌<◌, ◌+◌, take, get_or, refl, sym, ap, subst, ◌∙◌, ℕ, zero, suc, ◌∷◌, [], ◌++◌, List, Bool, true, false, length, drop, map, append_assoc, arith}
-use Rattle.std.specs.Prelude.{◌&&◌}
+use Rattle.std.proofs.Common.{◌≡◌, ◌≤◌, ◌<◌, ◌+◌, take, get_or, refl, sym, ap, subst, ◌∙◌, ℕ, suc, ◌∷◌, [], ◌++◌, List, true, length, drop, map, append_assoc, arith}
 use Rattle.std.proofs.lemmas.Bool.{and_parts, and_from}
 use Rattle.std.proofs.lemmas.List.{append-nil, length-append, take_more, take_all, drop_more, take-append-drop}
 use Rattle.oc_tree.specs.declared.spot.Spot.{Spot}
@@ -9,7 +8,7 @@ use Rattle.oc_tree.specs.declared.types.SlotType.{SlotType}
 use Rattle.oc_tree.specs.declared.typed.Stmt.{Stmt}
 use Rattle.first_form.specs.Items.{Item, Named, is_item, are_items, declared_by}
 use Rattle.first_form.specs.Trees.{first_of, parsed, parsed_items, statement, statements, slot_type, all_declared}
-use Rattle.first_form.specs.Scope.{NoNext, IsNext, NoBody, IsBody}
+use Rattle.first_form.specs.Bodies.{NoNext, IsNext, NoBody, IsBody}
 use Rattle.first_form.proofs.Forms.{firsts}
 use Rattle.first_form.proofs.Whole.{declared_once}
 

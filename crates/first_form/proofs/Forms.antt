@@ -1,9 +1,8 @@
 -- Forms of parsed expressions: what two trees of one form have in common, and what the reader has seen of a form.
-use Rattle.std.proofs.Common.{◌≡◌, refl, sym, ap, subst, ◌∙◌, ℕ, ◌+◌, cond, eqb, length, ◌∷◌, [], List, Option, Some, None, Bool, true, false, arith}
-use Rattle.std.specs.Prelude.{IsTrue, MatchOption, codes, ◌||◌}
-use Rattle.std.proofs.lemmas.Bool.{eqb-true, eq-eqb, or_cases}
+use Rattle.std.proofs.Common.{◌≡◌, refl, sym, ap, subst, ◌∙◌, ℕ, cond, eqb, length, ◌∷◌, [], List, Option, Some, None, Bool, true, false}
+use Rattle.std.specs.Prelude.{IsTrue, MatchOption}
+use Rattle.std.proofs.lemmas.Bool.{eqb-true, eq-eqb}
 use Rattle.oc_values.specs.declared.integers.IntKind.TheVariants.{I32}
-use Rattle.oc_values.specs.declared.integers.BinaryOp.{BinaryOp}
 use Rattle.oc_tree.specs.declared.spot.Spot.{Spot}
 use Rattle.oc_tree.specs.declared.literal.Literal.{Literal}
 use Rattle.oc_tree.specs.declared.parsed.Expr.{Expr}
@@ -13,10 +12,10 @@ use Rattle.oc_tree.specs.declared.parsed.UnaryOp.TheVariants.{Address}
 use Rattle.oc_tree.specs.Parsed.{expr}
 use Rattle.first_form.specs.declared.node.SourceName.{SourceName}
 use Rattle.first_form.specs.Items.{same_bytes}
-use Rattle.first_form.specs.Trees.{number, name_at, call, literal_0, literal_1, literal_2, party_literal}
-use Rattle.first_form.specs.Reading.{IsNumber, PartyRead, source_name, is_party}
+use Rattle.first_form.specs.Trees.{number, name_at, call, literal_1, literal_2, party_literal}
+use Rattle.first_form.specs.Reading.{IsNumber, PartyRead, source_name}
 use Rattle.first_form.proofs.Names.{same_is, same_self}
-use Rattle.first_form.proofs.Nodes.{calls, unaries, binaries, literal_is}
+use Rattle.first_form.proofs.Nodes.{calls, unaries, literal_is}
 
 pub whole : (x : Expr) (node : ExprNode) → x.node ≡ node → x ≡ expr x.spot node
 whole x node h = ap (expr x.spot) h

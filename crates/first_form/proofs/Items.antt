@@ -1,6 +1,6 @@
 -- What the reader has seen of an item, against the item's whole tree.
-use Rattle.std.proofs.Common.{◌≡◌, refl, sym, ap, ◌∙◌, ℕ, ◌∷◌, [], List, Option, Some, None, Bool, true, false}
-use Rattle.std.specs.Prelude.{IsTrue, MatchOption, codes}
+use Rattle.std.proofs.Common.{◌≡◌, refl, sym, ap, ◌∙◌, ℕ, ◌∷◌, [], List, Option, Some, None}
+use Rattle.std.specs.Prelude.{MatchOption, codes}
 use Rattle.oc_tree.specs.declared.spot.Spot.{Spot}
 use Rattle.oc_tree.specs.declared.parsed.Expr.{Expr}
 use Rattle.oc_tree.specs.declared.parsed.ExprNode.TheVariants as e
@@ -8,7 +8,7 @@ use Rattle.oc_tree.specs.declared.parsed.UnaryOp.TheVariants.{Address}
 use Rattle.oc_tree.specs.Parsed.{expr}
 use Rattle.first_form.specs.declared.node.SourceName.{SourceName}
 use Rattle.first_form.specs.Trees.{number, name_at, call, literal_0, party_literal, feed, revealing, printing}
-use Rattle.first_form.specs.Reading.{IsNumber, PartyRead, FeedRead, RevealRead, PrintRead, source_name}
+use Rattle.first_form.specs.Reading.{IsNumber, PartyRead, FeedRead, PrintRead, source_name}
 use Rattle.first_form.proofs.Forms.{one_same, two_same, three_same, number_is, number_along}
 
 -- ---- what feeds a name

@@ -1,5 +1,5 @@
 -- The one function of a program.
-use Rattle.std.proofs.Common.{◌≡◌, refl, sym, ap, subst, ◌∙◌, ℕ, ◌∷◌, [], List, Option, Some, None, Bool, true, false, length, get_or, arith}
+use Rattle.std.proofs.Common.{◌≡◌, sym, ap, ◌∙◌, ℕ, ◌∷◌, [], List, Option, Some, None, Bool, true, false, length, get_or, arith}
 use Rattle.std.specs.Prelude.{MatchOption, codes}
 use Rattle.std.specs.Borrow.{Bor}
 use Rattle.oc_tree.specs.declared.spot.Spot.{Spot}
@@ -9,7 +9,8 @@ use Rattle.oc_tree.specs.declared.parsed.Function.{Function}
 use Rattle.oc_tree.specs.declared.parsed.Program.{Program}
 use Rattle.oc_tree.specs.declared.parsed.Stmt.{Stmt as ParsedStmt}
 use Rattle.first_form.specs.Items.{same_bytes}
-use Rattle.first_form.specs.Scope.{function_with, IsMain}
+use Rattle.first_form.specs.Bodies.{IsMain}
+use Rattle.first_form.specs.Trees.{function_with}
 use Rattle.first_form.proofs.Names.{same_is}
 use Rattle.first_form.proofs.Forms.{firsts}
 use Rattle.first_form.proofs.Statements.{only_one}

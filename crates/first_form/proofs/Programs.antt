@@ -7,8 +7,8 @@ use Rattle.oc_tree.specs.declared.typed.Stmt.{Stmt}
 use Rattle.oc_tree.specs.declared.typed.TypedFunction.{TypedFunction}
 use Rattle.oc_tree.specs.declared.program.Typed.{Typed}
 use Rattle.oc_tree.specs.Typing.{is_typed}
-use Rattle.first_form.specs.Trees.{parsed_items, main_function, statements, slot_type, all_declared}
-use Rattle.first_form.specs.Scope.{IsBody, NoBody, IsMain, main_with}
+use Rattle.first_form.specs.Trees.{parsed_items, main_function, slot_type, all_declared, main_with}
+use Rattle.first_form.specs.Bodies.{IsBody, IsMain}
 use Rattle.first_form.specs.First.{First}
 use Rattle.first_form.proofs.Typings.{main_typed}
 

@@ -1,6 +1,6 @@
 -- A small parsed tree of the first form, with its typed tree.
-use Rattle.std.proofs.Common.{◌≡◌, refl, ℕ, ◌+◌, ◌∷◌, [], List, Option, Some, None, true, false, arith, lit≤}
-use Rattle.std.specs.Prelude.{codes, ◌≤◌, length, IsTrue}
+use Rattle.std.proofs.Common.{refl, ℕ, ◌+◌, ◌∷◌, [], List, Some, None, true, false, lit≤}
+use Rattle.std.specs.Prelude.{codes, IsTrue}
 use Rattle.oc_values.specs.declared.integers.BinaryOp.TheVariants.{Add, Sub}
 use Rattle.oc_values.specs.declared.integers.IntKind.TheVariants.{I32}
 use Rattle.oc_tree.specs.declared.spot.Spot.{Spot}

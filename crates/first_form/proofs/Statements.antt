@@ -1,6 +1,6 @@
 -- What the reader has seen of a statement, against the statement's whole tree.
-use Rattle.std.proofs.Common.{◌≡◌, refl, sym, ap, subst, ◌∙◌, ℕ, ◌+◌, ◌<◌, ◌≤◌, ◌∷◌, [], List, Option, Some, None, Bool, true, false, length, get_or, arith}
-use Rattle.std.specs.Prelude.{IsTrue, MatchOption}
+use Rattle.std.proofs.Common.{◌≡◌, sym, ap, subst, ◌∙◌, ℕ, ◌<◌, ◌≤◌, ◌∷◌, [], List, Option, Some, None, Bool, true, false, length, get_or, arith}
+use Rattle.std.specs.Prelude.{MatchOption}
 use Rattle.oc_values.specs.declared.integers.IntKind.TheVariants.{I32}
 use Rattle.oc_tree.specs.declared.spot.Spot.{Spot}
 use Rattle.oc_tree.specs.declared.parsed.Expr.{Expr}
@@ -13,8 +13,8 @@ use Rattle.oc_tree.specs.declared.parsed.StmtNode.{StmtNode}
 use Rattle.oc_tree.specs.declared.parsed.StmtNode.TheVariants as st
 use Rattle.oc_tree.specs.Parsed.{stmt, int_base, field, declared}
 use Rattle.first_form.specs.declared.item.SourceItem.{SourceItem}
-use Rattle.first_form.specs.Items.{Item, Feeds, Declares, Reveals, Prints}
-use Rattle.first_form.specs.Trees.{at, feed, revealing, printing, parsed}
+use Rattle.first_form.specs.Items.{Feeds, Declares, Reveals, Prints}
+use Rattle.first_form.specs.Trees.{at, feed, revealing, printing}
 use Rattle.first_form.specs.Reading.{ItemRead, NoItem}
 use Rattle.first_form.proofs.Forms.{firsts}
 

@@ -1,5 +1,5 @@
 -- Sums that the reader has seen.
-use Rattle.std.proofs.Common.{◌≡◌, ◌+◌, ◌<◌, ◌≤◌, length, drop, refl, sym, ap, subst, ◌∙◌, ℕ, zero, suc, ◌-◌, ◌∷◌, [], List, Option, Some, None, Bool, true, false, arith}
+use Rattle.std.proofs.Common.{◌≡◌, ◌+◌, ◌<◌, ◌≤◌, length, drop, refl, sym, ap, subst, ◌∙◌, ℕ, zero, suc, ◌-◌, ◌∷◌, [], List, true, arith}
 use Rattle.std.specs.List.{list_all}
 use Rattle.std.proofs.lemmas.Bool.{and_parts, and_from}
 use Rattle.oc_values.specs.declared.integers.BinaryOp.{BinaryOp}

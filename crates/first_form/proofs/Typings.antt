@@ -1,24 +1,23 @@
 -- The tree of items is well typed, wherever its words stand.
-use Rattle.std.proofs.Common.{◌≡◌, add-one, leb, ℕ, zero, suc, ◌+◌, ◌<◌, ◌≤◌, Bool, true, false, cond, eqb, List, [], ◌∷◌, ◌++◌, length, take, drop, map, Option, Some, None, refl, sym, ap, subst, ◌∙◌, append_assoc, arith, pos}
+use Rattle.std.proofs.Common.{◌≡◌, add-one, leb, ℕ, ◌+◌, Bool, true, false, cond, eqb, List, [], ◌∷◌, ◌++◌, length, take, drop, map, Option, Some, None, refl, sym, ap, subst, ◌∙◌, append_assoc, arith}
 use Rattle.std.specs.Prelude.{slice_get, ◌&&◌, ◌||◌}
 use Rattle.std.specs.List.{list_all}
 use Rattle.std.proofs.lemmas.Bool.{and_parts, and_from, eq-eqb, le-leb}
 use Rattle.std.proofs.lemmas.List.{append-nil, length-append, length-map, map-append, take_at}
-use Rattle.oc_values.specs.declared.integers.IntKind.TheVariants.{I32, I64}
+use Rattle.oc_values.specs.declared.integers.IntKind.TheVariants.{I32}
 use Rattle.oc_values.specs.declared.integers.BinaryOp.{BinaryOp}
 use Rattle.oc_values.specs.declared.integers.BinaryOp.TheVariants.{Add, Sub}
 use Rattle.oc_tree.specs.declared.spot.Spot.{Spot}
-use Rattle.oc_tree.specs.declared.types.CType.{CType, Int, Pointer, Nothing}
+use Rattle.oc_tree.specs.declared.types.CType.{Pointer, Nothing}
 use Rattle.oc_tree.specs.declared.types.CType.TheBlock.{hidden-the_row-CType-0}
 use Rattle.oc_tree.specs.declared.types.SlotType.{SlotType}
 use Rattle.oc_tree.specs.declared.typed.TExpr.{TExpr}
-use Rattle.oc_tree.specs.declared.typed.ExprNode.{ExprNode, Read, AddressOf, Binary, Builtin}
+use Rattle.oc_tree.specs.declared.typed.ExprNode.{ExprNode, AddressOf, Binary, Builtin}
 use Rattle.oc_tree.specs.declared.typed.ExprNode.TheBlock.{hidden-the_row-TExpr-0, hidden-the_row-TExpr-1}
 use Rattle.oc_tree.specs.declared.typed.Builtin.TheVariants.{Reveal, Print}
 use Rattle.oc_tree.specs.declared.typed.PrintPiece.TheVariants.{Text, Decimal}
-use Rattle.oc_tree.specs.declared.typed.Stmt.{Stmt}
 use denote.Hole.Carrier.{hidden}
-use Rattle.oc_tree.specs.Typing.{typed_expr, typed_start, typed_names, typed_node, names_of, typed_body, is_typed, is_party, is_of_slot, is_sum}
+use Rattle.oc_tree.specs.Typing.{typed_expr, typed_start, typed_node, names_of, typed_body, is_typed, is_party, is_of_slot, is_sum}
 use Rattle.oc_tree.specs.Types.{same, alike}
 use Rattle.first_form.specs.Items.{Item, Feeds, Declares, Reveals, Prints, Summand, Named, same_bytes, mark_of, is_marked, is_known, is_new, is_plus_or_minus, is_summand, is_item, are_items, declared_by}
 use Rattle.first_form.specs.Trees.{slot_of, int_type, variable, reading, summed, fed, statement, statements, slot_type, all_declared, main_function, at, first_of}

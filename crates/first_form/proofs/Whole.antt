@@ -1,12 +1,11 @@
 -- One statement, read and built, is one item's; and where none can be built it is no fitting item's.
-use Rattle.std.proofs.Common.{◌≡◌, ◌≤◌, ◌<◌, leb, refl, sym, ap, subst, ◌∙◌, ℕ, suc, ◌+◌, ◌∷◌, [], ◌++◌, List, Option, Some, None, Bool, true, false, length, drop, arith}
-use Rattle.std.specs.Prelude.{codes, IsTrue, ◌&&◌, ◌||◌, nat_eq}
+use Rattle.std.proofs.Common.{◌≡◌, ◌≤◌, leb, refl, sym, ap, subst, ◌∙◌, ℕ, ◌+◌, ◌∷◌, [], ◌++◌, List, Some, None, true, false, length, drop, arith}
+use Rattle.std.specs.Prelude.{codes, ◌&&◌}
 use Rattle.std.specs.List.{list_all}
 use Rattle.std.proofs.lemmas.Bool.{and_parts, and_from, le-leb, leb-true}
 use Rattle.oc_values.specs.declared.integers.IntKind.TheVariants.{I32}
 use Rattle.oc_tree.specs.declared.spot.Spot.{Spot}
 use Rattle.oc_tree.specs.declared.parsed.Expr.{Expr}
-use Rattle.oc_tree.specs.declared.parsed.Declared.{Declared}
 use Rattle.oc_tree.specs.declared.parsed.Stmt.{Stmt as ParsedStmt}
 use Rattle.oc_tree.specs.declared.parsed.StmtNode.{StmtNode, Declare}
 use Rattle.oc_tree.specs.declared.parsed.StmtNode.TheVariants as st
@@ -15,14 +14,15 @@ use Rattle.oc_tree.specs.declared.typed.ExprNode.{Builtin}
 use Rattle.oc_tree.specs.declared.typed.Builtin.TheVariants.{Reveal, Print}
 use Rattle.oc_tree.specs.declared.typed.PrintPiece.TheVariants.{Text, Decimal}
 use Rattle.oc_tree.specs.declared.typed.Stmt.{Stmt}
-use Rattle.oc_tree.specs.Parsed.{stmt, int_base, field, declared}
+use Rattle.oc_tree.specs.Parsed.{stmt}
 use Rattle.first_form.specs.declared.item.SourceItem.{SourceItem}
 use Rattle.first_form.specs.declared.item.SourceItem.TheVariants as source
 use Rattle.first_form.specs.declared.item.SourceReveal.{SourceReveal}
 use Rattle.first_form.specs.Items.{Item, Feeds, Declares, Reveals, Prints, Summand, Named, same_bytes, is_known, is_new, is_summand, is_item, declared_by}
-use Rattle.first_form.specs.Trees.{at, name_at, call, feed, declaration, revealing, printing, parsed, sum, summed, slot_of, reading, fed, pointing, declaring, calling, statement}
+use Rattle.first_form.specs.Trees.{at, name_at, call, revealing, printing, parsed, sum, summed, slot_of, reading, fed, pointing, declaring, calling}
 use Rattle.first_form.specs.Reading.{ItemRead, source_of}
-use Rattle.first_form.specs.Scope.{declared_of, Reads, reads, Sums, one, Builds, NoNext, IsNext}
+use Rattle.first_form.specs.Scope.{declared_of, reads, Sums, one, Builds}
+use Rattle.first_form.specs.Bodies.{NoNext, IsNext}
 use Rattle.first_form.proofs.Names.{same_self}
 use Rattle.first_form.proofs.Forms.{calls_agree, names_agree, addresses_agree, two_same, three_same}
 use Rattle.first_form.proofs.Statements.{statements_agree, expressions_agree}

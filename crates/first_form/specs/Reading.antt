@@ -1,23 +1,19 @@
 -- What the reader finds in the nodes of a program.
-use Rattle.std.specs.Prelude.{◌≡◌, ℕ, zero, suc, List, [], ◌∷◌, ◌++◌, length, Option, Some, None, true, false, Bool, ◌||◌, nat_eq, IsTrue, codes}
+use Rattle.std.specs.Prelude.{◌≡◌, ℕ, List, [], Some, None, true, false, Bool, ◌||◌, nat_eq, IsTrue}
 use Rattle.oc_values.specs.declared.integers.IntKind.TheVariants.{I32}
-use Rattle.oc_values.specs.declared.integers.BinaryOp.{BinaryOp}
 use Rattle.oc_tree.specs.declared.spot.Spot.{Spot}
 use Rattle.oc_tree.specs.declared.literal.Literal.{Literal}
 use Rattle.oc_tree.specs.declared.parsed.Expr.{Expr}
-use Rattle.oc_tree.specs.declared.parsed.ExprNode.TheVariants as e
 use Rattle.oc_tree.specs.declared.parsed.FieldDef.{FieldDef}
 use Rattle.oc_tree.specs.declared.parsed.Stmt.{Stmt as ParsedStmt}
 use Rattle.oc_tree.specs.declared.parsed.StmtNode.TheVariants as st
-use Rattle.oc_tree.specs.declared.parsed.Function.{Function}
-use Rattle.oc_tree.specs.declared.parsed.Program.{Program}
-use Rattle.oc_tree.specs.Parsed.{expr, stmt, int_base, field}
+use Rattle.oc_tree.specs.Parsed.{stmt, int_base, field}
 use Rattle.first_form.specs.declared.node.SourceName.{SourceName}
 use Rattle.first_form.specs.declared.item.SourceFeed.{SourceFeed}
 use Rattle.first_form.specs.declared.item.SourceReveal.{SourceReveal}
 use Rattle.first_form.specs.declared.item.SourceItem.{SourceItem}
 use Rattle.first_form.specs.declared.item.SourceItem.TheVariants as source
-use Rattle.first_form.specs.Items.{Item, Named}
+use Rattle.first_form.specs.Items.{Item}
 use Rattle.first_form.specs.Trees.{number, name_at, party_literal, declaration, feed, revealing, printing, parsed}
 
 -- the expression is a number of this value, of the kind I32

@@ -1,30 +1,23 @@
--- The names that are declared, as the reader keeps them, and what it builds of statements after them.
-use Rattle.std.specs.Prelude.{◌≡◌, ◌≤◌, ℕ, zero, suc, List, [], ◌∷◌, ◌++◌, length, map, Some, None, true, false, Bool, ◌&&◌, IsTrue, codes}
+-- The names that are declared, as the reader keeps them, and what it builds of an item after them.
+use Rattle.std.specs.Prelude.{◌≡◌, ℕ, suc, List, [], ◌∷◌, length, Some, None, true, false}
 use Rattle.oc_values.specs.declared.integers.BinaryOp.{BinaryOp}
 use Rattle.oc_values.specs.declared.integers.IntKind.TheVariants.{I32}
 use Rattle.oc_tree.specs.declared.spot.Spot.{Spot}
 use Rattle.oc_tree.specs.declared.parsed.Expr.{Expr}
 use Rattle.oc_tree.specs.declared.parsed.ExprNode.TheVariants as e
-use Rattle.oc_tree.specs.declared.parsed.Stmt.{Stmt as ParsedStmt}
-use Rattle.oc_tree.specs.declared.parsed.Function.{Function}
-use Rattle.oc_tree.specs.declared.parsed.Program.{Program}
-use Rattle.oc_tree.specs.declared.types.CType.{Nothing}
-use Rattle.oc_tree.specs.declared.types.SlotType.{SlotType}
 use Rattle.oc_tree.specs.declared.typed.TExpr.{TExpr}
 use Rattle.oc_tree.specs.declared.typed.ExprNode.{Binary, Builtin}
 use Rattle.oc_tree.specs.declared.typed.Builtin.TheVariants.{Reveal, Print}
 use Rattle.oc_tree.specs.declared.typed.PrintPiece.TheVariants.{Text, Decimal}
 use Rattle.oc_tree.specs.declared.typed.Stmt.{Stmt}
-use Rattle.oc_tree.specs.declared.typed.TypedFunction.{TypedFunction}
-use Rattle.oc_tree.specs.declared.program.Typed.{Typed}
 use Rattle.oc_tree.specs.Parsed.{expr}
 use Rattle.first_form.specs.declared.node.SourceName.{SourceName}
 use Rattle.first_form.specs.declared.item.SourceItem.{SourceItem}
 use Rattle.first_form.specs.declared.item.SourceItem.TheVariants as source
 use Rattle.first_form.specs.declared.scope.DeclaredName.{DeclaredName}
-use Rattle.first_form.specs.Items.{Item, Named, is_plus_or_minus, is_known, is_new, is_item, are_items, declared_by}
+use Rattle.first_form.specs.Items.{Named, is_plus_or_minus, is_known, is_new}
 use Rattle.first_form.specs.Reading.{source_name}
-use Rattle.first_form.specs.Trees.{name_at, parsed, parsed_items, parsed_main, slot_of, int_type, reading, fed, pointing, declaring, calling, statement, statements, slot_type, all_declared, main_function}
+use Rattle.first_form.specs.Trees.{name_at, slot_of, int_type, reading, fed, pointing, declaring, calling}
 
 abbrev pub named : DeclaredName → Named
 named d = record { name = d.name.now; hidden = d.hidden }
@@ -59,43 +52,3 @@ Builds ds s (source.Reveals r) t =
     × (t ≡ calling s r.call (Builtin (Reveal I32) (pointing r.address r.target.spot (slot_of r.target.text.now ds) ∷ sum ∷ [])))
 Builds ds s (source.Prints c name) t =
     (is_known ds false name.text.now ≡ true) × (t ≡ calling s c (Builtin (Print (Decimal ∷ Text (10 ∷ []) ∷ [])) (reading name.spot false (slot_of name.text.now ds) ∷ [])))
-
--- no item that may stand after these names has this statement
-abbrev pub NoNext : List Named → ParsedStmt → Type 0
-NoNext ds x = (ss : List Spot) (i : Item) → is_item ds i ≡ true → x ≡ parsed ss i → ⊥
-
--- the typed statement of a parsed one, after names that grow by what it declares
-pub record IsNext (before after : List Named) (x : ParsedStmt) (t : Stmt) : Type 0 where
-  pub spots : List Spot
-  pub item : Item
-  pub fits : is_item before item ≡ true
-  pub source : x ≡ parsed spots item
-  pub tree : t ≡ statement before spots item
-  pub names : after ≡ before ++ declared_by item
-
--- the variables and the statements of the items of a body
-pub record IsBody (xs : List ParsedStmt) (slots : List SlotType) (body : List Stmt) : Type 0 where
-  pub items : List Item
-  pub spots : List (List Spot)
-  pub count : length items ≤ 100
-  pub fit : are_items [] items ≡ true
-  pub source : xs ≡ parsed_items spots items
-  pub variables : slots ≡ map slot_type (all_declared items)
-  pub trees : body ≡ statements [] spots items
-
--- the body isn't of items
-abbrev pub NoBody : List ParsedStmt → Type 0
-NoBody xs = (spots : List (List Spot)) (items : List Item) → length items ≤ 100 → are_items [] items ≡ true → xs ≡ parsed_items spots items → ⊥
-
--- the one function, with this body
-abbrev pub function_with : Spot → List ParsedStmt → Function
-function_with spot body = record { spot = spot; name = codes "oc_main"; result = None; params = []; obliv = false; body = Some body }
-
--- the program has that function alone
-pub record IsMain (p : Program) (body : List ParsedStmt) : Type 0 where
-  pub main : Spot
-  pub no_structs : p.structs ≡ []
-  pub whole : p.functions ≡ function_with main body ∷ []
-
-abbrev pub main_with : List SlotType → List Stmt → TypedFunction
-main_with slots body = record { name = codes "oc_main"; result = Nothing; params = 0; slots = slots; obliv = false; body = body }

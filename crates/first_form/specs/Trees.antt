@@ -14,10 +14,9 @@ use Rattle.oc_tree.specs.declared.types.SlotType.{SlotType}
 use Rattle.oc_tree.specs.declared.typed.TExpr.{TExpr}
 use Rattle.oc_tree.specs.declared.typed.TPlace.{TPlace}
 use Rattle.oc_tree.specs.declared.typed.ExprNode.{ExprNode, Number, Read, AddressOf, Binary, Builtin}
-use Rattle.oc_tree.specs.declared.typed.PlaceNode.{PlaceNode, Slot}
+use Rattle.oc_tree.specs.declared.typed.PlaceNode.{Slot}
 use Rattle.oc_tree.specs.declared.typed.Builtin.TheVariants.{Private, Feed, Reveal, Print}
 use Rattle.oc_tree.specs.declared.typed.PrintPiece.TheVariants.{Text, Decimal}
-use Rattle.oc_tree.specs.declared.typed.Declared.{Declared}
 use Rattle.oc_tree.specs.declared.typed.Stmt.{Stmt}
 use Rattle.oc_tree.specs.declared.typed.StmtNode.TheVariants.{Declare, Express}
 use Rattle.oc_tree.specs.declared.typed.TypedFunction.{TypedFunction}
@@ -94,9 +93,12 @@ abbrev pub parsed_items : List (List Spot) → List Item → List ParsedStmt
 parsed_items spots [] = []
 parsed_items spots (i ∷ is) = parsed (first_of spots) i ∷ parsed_items (drop 1 spots) is
 
--- `void oc_main(void)` with these items
+-- `void oc_main(void)` with this body
+abbrev pub function_with : Spot → List ParsedStmt → Function
+function_with spot body = record { spot = spot; name = codes "oc_main"; result = None; params = []; obliv = false; body = Some body }
+
 abbrev pub parsed_main : Spot → List (List Spot) → List Item → Function
-parsed_main spot spots items = record { spot = spot; name = codes "oc_main"; result = None; params = []; obliv = false; body = Some (parsed_items spots items) }
+parsed_main spot spots items = function_with spot (parsed_items spots items)
 
 -- ---- typed nodes
 
@@ -155,6 +157,8 @@ all_declared [] = []
 all_declared (i ∷ is) = declared_by i ++ all_declared is
 
 -- the one function of a program
+abbrev pub main_with : List SlotType → List Stmt → TypedFunction
+main_with slots body = record { name = codes "oc_main"; result = Nothing; params = 0; slots = slots; obliv = false; body = body }
+
 abbrev pub main_function : List (List Spot) → List Item → TypedFunction
-main_function spots items =
-    record { name = codes "oc_main"; result = Nothing; params = 0; slots = map slot_type (all_declared items); obliv = false; body = statements [] spots items }
+main_function spots items = main_with (map slot_type (all_declared items)) (statements [] spots items)

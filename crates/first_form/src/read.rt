@@ -4,8 +4,9 @@ ghost use Rattle.std.specs.Prelude.{◌≡◌, [], ◌∷◌, List, map, IfOk, I
 ghost use Rattle.oc_tree.specs.declared.spot.Spot.{Spot};
 ghost use Rattle.oc_tree.specs.declared.parsed.Stmt.{Stmt as ParsedStmt};
 ghost use Rattle.oc_tree.specs.declared.program.Typed.{Typed};
-ghost use Rattle.first_form.specs.Trees.{slot_type};
-ghost use Rattle.first_form.specs.Scope.{named, NoNext, IsNext, NoBody, IsBody, function_with, IsMain, main_with};
+ghost use Rattle.first_form.specs.Trees.{slot_type, function_with, main_with};
+ghost use Rattle.first_form.specs.Scope.{named};
+ghost use Rattle.first_form.specs.Bodies.{NoNext, IsNext, NoBody, IsBody, IsMain};
 ghost use Rattle.first_form.specs.First.{First};
 
 use crate::item::item;

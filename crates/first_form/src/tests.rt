@@ -407,17 +407,22 @@ fn wrong_heading(alloc: Global, which: u32) -> Result<Program, NoMemory> {
     } else {
         Some(Items::new(alloc))
     };
-    let mut main = function(alloc, name, body)?;
-    main.obliv = which == 2;
-    if which == 3 {
-        main.result = Some(TypeName {
-            base: int_base(),
-            stars: 0,
-        });
-    }
+    let mut params = Items::new(alloc);
     if which == 4 {
-        main.params.push(parameter(alloc)?)?;
+        params.push(parameter(alloc)?)?;
     }
+    let int = TypeName {
+        base: int_base(),
+        stars: 0,
+    };
+    let main = Function {
+        spot: SPOT,
+        name: Name::from_bytes(alloc, name)?,
+        result: if which == 3 { Some(int) } else { None },
+        params,
+        obliv: which == 2,
+        body,
+    };
     let mut functions = Items::new(alloc);
     if which != 5 {
         functions.push(main)?;

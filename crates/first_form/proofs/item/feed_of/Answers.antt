@@ -1,4 +1,3 @@
-use Rattle.std.proofs.Common.{◌≡◌, ◌∷◌, []}
 use Rattle.first_form.specs.Trees.{number, literal_0}
 use Rattle.first_form.proofs.Forms.{true_false}
 use Rattle.first_form.proofs.Items.{feed_parts, index_part, feed_read}

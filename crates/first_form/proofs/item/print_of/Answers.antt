@@ -1,4 +1,3 @@
-use Rattle.std.proofs.Common.{◌≡◌}
 use Rattle.first_form.proofs.Forms.{true_false}
 use Rattle.first_form.proofs.Items.{print_parts, text_part, printed}
 use Rattle.first_form.proofs.item.print_of.Goals as goal

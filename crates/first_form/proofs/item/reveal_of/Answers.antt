@@ -1,4 +1,3 @@
-use Rattle.std.proofs.Common.{◌≡◌}
 use Rattle.first_form.proofs.Forms.{true_false}
 use Rattle.first_form.proofs.Items.{reveal_parts, end_part, reveal_whole}
 use Rattle.first_form.proofs.item.reveal_of.Goals as goal

@@ -1,4 +1,4 @@
-use Rattle.std.proofs.Common.{◌≡◌, ◌∷◌, [], length, arith}
+use Rattle.std.proofs.Common.{◌∷◌, [], arith}
 use Rattle.first_form.proofs.Forms.{other_count}
 use Rattle.first_form.proofs.node.two_arguments.Goals as goal
 

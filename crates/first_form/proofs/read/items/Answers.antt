@@ -1,5 +1,4 @@
-use Rattle.std.proofs.Common.{◌≡◌, ◌∙◌, ap, map, arith}
-use Rattle.first_form.specs.declared.scope.DeclaredName.{DeclaredName}
+use Rattle.std.proofs.Common.{◌∙◌, ap, map, arith}
 use Rattle.first_form.specs.Trees.{slot_type}
 use Rattle.first_form.specs.Scope.{named}
 use Rattle.first_form.proofs.Bodies.{too_long, begun, went_on, gave_up, went_through}

@@ -1,4 +1,4 @@
-use Rattle.std.proofs.Common.{◌≡◌, ◌∙◌, sym}
+use Rattle.std.proofs.Common.{◌∙◌, sym}
 use Rattle.first_form.proofs.Mains.{main_known}
 use Rattle.first_form.proofs.read.main_body.Goals as goal
 

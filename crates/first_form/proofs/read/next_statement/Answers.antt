@@ -1,8 +1,9 @@
-use Rattle.std.proofs.Common.{◌≡◌, sym, subst, map, ◌++◌, List}
+use Rattle.std.proofs.Common.{sym, subst, map, List}
 use Rattle.oc_tree.specs.declared.typed.Stmt.{Stmt}
 use Rattle.first_form.specs.declared.scope.DeclaredName.{DeclaredName}
 use Rattle.first_form.specs.Items.{Named}
-use Rattle.first_form.specs.Scope.{named, declared_of, Builds, IsNext}
+use Rattle.first_form.specs.Scope.{named, Builds}
+use Rattle.first_form.specs.Bodies.{IsNext}
 use Rattle.first_form.proofs.Whole.{built, none_built}
 use Rattle.first_form.proofs.read.next_statement.Goals as goal
 

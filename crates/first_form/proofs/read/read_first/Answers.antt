@@ -1,4 +1,3 @@
-use Rattle.std.proofs.Common.{◌≡◌}
 use Rattle.first_form.specs.Trees.{parsed_items}
 use Rattle.first_form.proofs.Programs.{functions_typed, has_main}
 use Rattle.first_form.proofs.read.read_first.Goals as goal

@@ -1,5 +1,4 @@
-use Rattle.std.proofs.Common.{map, sym, ◌∙◌, ◌≡◌, true}
-use Rattle.first_form.specs.Items.{is_plus_or_minus}
+use Rattle.std.proofs.Common.{map, sym, ◌∙◌}
 use Rattle.first_form.specs.Scope.{named as declared_name}
 use Rattle.first_form.proofs.Sums.{reads_of, one_name, more_names}
 use Rattle.first_form.proofs.tree.+summed.Goals as goal
