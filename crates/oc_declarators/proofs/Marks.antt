@@ -1,5 +1,5 @@
 -- What a written type begins with.
-use Rattle.std.proofs.Common.{◌≡◌, ℕ, List, [], ◌∷◌, ◌++◌, Bool, true, false, refl, sym, ◌∙◌, ap, append-nil, subst}
+use Rattle.std.proofs.Common.{◌≡◌, ℕ, List, [], ◌∷◌, Bool, true, false, refl, ap, append-nil}
 use Rattle.oc_values.specs.declared.integers.IntKind.{IntKind}
 use Rattle.oc_values.specs.declared.integers.IntKind.TheVariants as kind
 use Rattle.oc_tree.specs.declared.spot.Spot.{Spot}
@@ -14,14 +14,14 @@ use Rattle.oc_grammar.specs.declared.tables.Opening.TheVariants as o
 use Rattle.oc_grammar.specs.Tokens.{Is, spot_at}
 use Rattle.oc_grammar.specs.Tables.{opening}
 use Rattle.oc_grammar.specs.Trees.{int_base, struct_base}
-use Rattle.oc_grammar.specs.Reading.{SameNext, Found, Refused, Leaves, Any, End, ended, Then, then, By, first}
+use Rattle.oc_grammar.specs.Reading.{Found, Refused, Leaves, Any, End, ended, Then, then, By, first}
 use Rattle.oc_grammar.specs.Calls.{ANamed, a_named}
 use Rattle.oc_grammar.specs.WrittenTypes.{Ints, Base, plain_int, obliv_int, frozen_int, frozen_obliv, obliv_frozen, a_struct, frozen_struct}
-use Rattle.oc_grammar.proofs.Reading.{no_token, same_token, start, turned, read, fails, ends, stuck_by, token, through, through_fails, Goes, Closes, close_end, close_then, after_end, then_end, sure}
+use Rattle.oc_grammar.proofs.Reading.{start, turned, read, fails, ends, Goes, Closes, close_end, after_end, then_end, sure}
 use Rattle.oc_grammar.proofs.Calls.{made, is_made}
 use Rattle.oc_grammar.proofs.Views.{OpeningView, opening_view, is_frozen, is_obliv, is_struct, is_bool, is_underscore_bool, is_signed, is_unsigned, is_char, is_short, is_int, is_long, is_other}
-use Rattle.oc_declarators.specs.Forms.{NoWord, BeforeNoWord, int_after, marked, named_struct, after_obliv, after_frozen, base_after}
-use Rattle.oc_declarators.proofs.Words.{ints_out, ints_in, some_ints}
+use Rattle.oc_declarators.specs.Forms.{BeforeNoWord, int_after, marked, named_struct, after_obliv, after_frozen, base_after}
+use Rattle.oc_declarators.proofs.Words.{ints_out, ints_in}
 
 -- ---- the marks and the words
 

@@ -1,22 +1,20 @@
 -- Names with their stars and lengths.
-use Rattle.std.proofs.Common.{◌≡◌, ℕ, ◌+◌, List, [], ◌∷◌, ◌++◌, Bool, true, false, refl, sym, ◌∙◌, ap, append-nil, append_assoc, subst, arith, add_assoc}
+use Rattle.std.proofs.Common.{◌≡◌, ℕ, ◌+◌, List, [], ◌∷◌, ◌++◌, refl, sym, ◌∙◌, ap, append-nil, append_assoc, subst, arith}
 use Rattle.oc_values.specs.declared.integers.IntKind.TheVariants as kind
 use Rattle.oc_tree.specs.declared.literal.Literal.{Literal}
 use Rattle.oc_tree.specs.declared.parsed.BaseName.{BaseName}
 use Rattle.oc_tree.specs.declared.parsed.FieldDef.{FieldDef}
 use Rattle.oc_tree.specs.declared.parsed.TypeName.{TypeName}
 use Rattle.oc_lexer.specs.declared.token.Token.{Token}
-use Rattle.oc_lexer.specs.declared.token.TokenKind.{TokenKind}
-use Rattle.oc_lexer.specs.declared.token.TokenKind.TheVariants.{Name, Number, Keyword, Sign}
+use Rattle.oc_lexer.specs.declared.token.TokenKind.TheVariants.{Name, Number, Sign}
 use Rattle.oc_lexer.specs.declared.token.Sign.TheVariants as s
-use Rattle.oc_lexer.specs.declared.token.Keyword.TheVariants as w
 use Rattle.oc_grammar.specs.declared.taking.Named.{Named}
 use Rattle.oc_grammar.specs.Tokens.{Is, Starts, NotNext}
 use Rattle.oc_grammar.specs.Trees.{field, type_name}
-use Rattle.oc_grammar.specs.Reading.{SameNext, Found, Refused, Leaves, Any, End, ended, Then, then, By, first, Loop, at_last, turn}
+use Rattle.oc_grammar.specs.Reading.{SameNext, Found, Refused, Leaves, Any, End, ended, Then, then, Loop, at_last, turn}
 use Rattle.oc_grammar.specs.Calls.{One, one, ANamed, a_named}
-use Rattle.oc_grammar.specs.WrittenTypes.{Base, Stars, no_star, star, Dims, no_dim, dim, Declr, declr, TypeNamed, type_named}
-use Rattle.oc_grammar.proofs.Reading.{start, turned, read, fails, ends, stuck, through, through_fails, Goes, Closes, close_end, close_then, after_end, after_then, then_end, sure, loop_on, loop_done}
+use Rattle.oc_grammar.specs.WrittenTypes.{Base, Stars, no_star, star, Dims, no_dim, dim, Declr, declr, type_named}
+use Rattle.oc_grammar.proofs.Reading.{start, turned, read, fails, ends, stuck, Goes, Closes, close_end, close_then, after_end, after_then, then_end, sure, loop_on, loop_done}
 use Rattle.oc_grammar.proofs.Calls.{made, is_made, not_next, close_one, after_one}
 use Rattle.oc_declarators.specs.Forms.{NoWord, BeforeNoWord, NoStar, NoBracket, ALength, a_length, dim_rest, closed_type}
 use Rattle.oc_declarators.proofs.Marks.{base_in, some_base}

@@ -1,5 +1,5 @@
 -- The words of an integer type.
-use Rattle.std.proofs.Common.{◌≡◌, ℕ, List, [], ◌∷◌, ◌++◌, Bool, true, false, refl, sym, ◌∙◌, ap, append-nil, append_assoc, subst}
+use Rattle.std.proofs.Common.{◌≡◌, List, [], ◌∷◌, ◌++◌, Bool, true, false, refl, sym, ◌∙◌, ap, append-nil, subst}
 use Rattle.oc_values.specs.declared.integers.IntKind.{IntKind}
 use Rattle.oc_values.specs.declared.integers.IntKind.TheVariants as kind
 use Rattle.oc_lexer.specs.declared.token.Token.{Token}
@@ -11,11 +11,11 @@ use Rattle.oc_grammar.specs.declared.tables.Width.{Width}
 use Rattle.oc_grammar.specs.declared.tables.Width.TheVariants as width
 use Rattle.oc_grammar.specs.declared.tables.Opening.{Opening}
 use Rattle.oc_grammar.specs.declared.tables.Opening.TheVariants as o
-use Rattle.oc_grammar.specs.Tokens.{Is, Starts, NotNext}
+use Rattle.oc_grammar.specs.Tokens.{Starts, NotNext}
 use Rattle.oc_grammar.specs.Tables.{opening, kind_of}
-use Rattle.oc_grammar.specs.Reading.{SameNext, Found, Refused, Leaves, Any, End, ended, Then, then, By, first, Maybe, stays, goes}
+use Rattle.oc_grammar.specs.Reading.{SameNext, Found, Refused, Leaves, End, ended, Then, then, By, first, stays, goes}
 use Rattle.oc_grammar.specs.WrittenTypes.{Optional, absent, present, Core, char, short, int, long, Ints, bool, underscore_bool, plain, signed, unsigned, signed_alone, unsigned_alone}
-use Rattle.oc_grammar.proofs.Reading.{no_token, same_token, start, turned, read, fails, ends, stuck_by, token, token_on, alone, through, through_fails, Goes, Closes, close_end, close_then, after_end, then_end, maybe_of_by}
+use Rattle.oc_grammar.proofs.Reading.{no_token, same_token, start, turned, read, ends, stuck_by, token, token_on, alone, through, Closes, close_end, close_then, after_end, then_end, maybe_of_by}
 use Rattle.oc_grammar.proofs.Calls.{not_next, made, is_made}
 use Rattle.oc_grammar.proofs.Views.{OpeningView, opening_view, is_frozen, is_obliv, is_struct, is_bool, is_underscore_bool, is_signed, is_unsigned, is_char, is_short, is_int, is_long, is_other}
 use Rattle.oc_declarators.specs.Forms.{NoWord, BeforeNoWord, NotWord, tail, named_after, int_after}

@@ -1,5 +1,5 @@
 -- Forms: what is left of a written type after its first tokens.
-use Rattle.std.specs.Prelude.{◌≡◌, ℕ, ◌+◌, List, [], ◌∷◌, ◌++◌, Bool, true, false}
+use Rattle.std.specs.Prelude.{ℕ, List, [], ◌∷◌, Bool, true, false}
 use Rattle.oc_values.specs.declared.integers.IntKind.{IntKind}
 use Rattle.oc_values.specs.declared.integers.IntKind.TheVariants as kind
 use Rattle.oc_tree.specs.declared.spot.Spot.{Spot}
@@ -7,7 +7,7 @@ use Rattle.oc_tree.specs.declared.literal.Literal.{Literal}
 use Rattle.oc_tree.specs.declared.parsed.BaseName.{BaseName}
 use Rattle.oc_tree.specs.declared.parsed.TypeName.{TypeName}
 use Rattle.oc_lexer.specs.declared.token.Token.{Token}
-use Rattle.oc_lexer.specs.declared.token.TokenKind.TheVariants.{Name, Number, Keyword, Sign}
+use Rattle.oc_lexer.specs.declared.token.TokenKind.TheVariants.{Number, Keyword, Sign}
 use Rattle.oc_lexer.specs.declared.token.Keyword.{Keyword as Word}
 use Rattle.oc_lexer.specs.declared.token.Keyword.TheVariants as w
 use Rattle.oc_lexer.specs.declared.token.Sign.TheVariants as s

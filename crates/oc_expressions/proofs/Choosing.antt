@@ -1,35 +1,23 @@
 -- Choices and assignments.
-use Rattle.std.proofs.Common.{◌≡◌, ℕ, zero, suc, ◌+◌, ◌≤◌, ◌<◌, List, [], ◌∷◌, ◌++◌, Option, Some, None, refl, sym, ◌∙◌, ap, arith, Bool, true, false, subst, append-nil, append_assoc}
+use Rattle.std.proofs.Common.{◌≡◌, ◌≤◌, List, [], ◌∷◌, ◌++◌, Option, arith, subst, append-nil}
 use Rattle.oc_values.specs.declared.integers.BinaryOp.{BinaryOp}
 use Rattle.oc_tree.specs.declared.spot.Spot.{Spot}
-use Rattle.oc_tree.specs.declared.parsed.TypeName.{TypeName}
 use Rattle.oc_tree.specs.declared.parsed.Expr.{Expr}
-use Rattle.oc_tree.specs.declared.parsed.ExprNode.{ExprNode}
 use Rattle.oc_tree.specs.declared.parsed.ExprNode.TheVariants as e
 use Rattle.oc_lexer.specs.declared.token.Token.{Token}
-use Rattle.oc_lexer.specs.declared.token.TokenKind.{TokenKind}
-use Rattle.oc_lexer.specs.declared.token.TokenKind.TheVariants.{Name, Number, Character, Text, Keyword, Sign}
-use Rattle.oc_lexer.specs.declared.token.Keyword.TheVariants as w
+use Rattle.oc_lexer.specs.declared.token.TokenKind.TheVariants.{Sign}
 use Rattle.oc_lexer.specs.declared.token.Sign.{Sign as SignType}
 use Rattle.oc_lexer.specs.declared.token.Sign.TheVariants as s
-use Rattle.oc_grammar.specs.declared.tables.Prefix.{Prefix}
-use Rattle.oc_grammar.specs.declared.tables.Joint.{Joint}
-use Rattle.oc_grammar.specs.declared.taking.Named.{Named}
-use Rattle.oc_grammar.specs.declared.tables.Opening.TheVariants as o
-use Rattle.oc_grammar.specs.Tokens.{Is, Starts, NotNext, SignStarts, NoSign, spot_at}
-use Rattle.oc_grammar.specs.Tables.{prefix, operator, assignment, bump, strength, opening}
-use Rattle.oc_grammar.specs.Trees.{expr, prefixed, joined, Leaf, number, character, text, null, truth, falsity}
-use Rattle.oc_grammar.specs.Reading.{SameNext, Found, Refused, Leaves, Any, End, ended, Then, then, By, first, Maybe, stays, goes, Loop, at_last, turn}
-use Rattle.oc_grammar.specs.Calls.{One, one, ANamed, a_named, Placed, placed}
-use Rattle.oc_grammar.specs.WrittenTypes.{TypeNamed, Commas}
-use Rattle.oc_grammar.specs.Expressions.{Rule, Expression, Before, before, Arguments, none, some, Listed, last, more, assign, choose, operation, signed, cast, index, field, arrow, bumped, leaf, named, call, size, parens, at, Stops, Ends}
-use Rattle.oc_grammar.proofs.Reading.{start, also, turned, read, fails, ends, stuck, stuck_by, token, token_on, alone, through, through_fails, same_token, no_token, Goes, sure, Closes, close_end, close_then, after_end, after_then, then_end, stricter, loop_on, loop_done, loop_snoc, by_end, by_none, by_left, end_is}
-use Rattle.oc_grammar.proofs.Calls.{made, is_made, not_next, no_sign, close_one, after_one, placed_found, placed_refused}
-use Rattle.oc_declarators.specs.Forms.{closed_type}
-use Rattle.oc_expressions.specs.declared.signs.Post.{Post}
-use Rattle.oc_expressions.specs.declared.signs.Post.TheVariants as p
+use Rattle.oc_grammar.specs.Tokens.{Starts, NotNext, SignStarts, NoSign, spot_at}
+use Rattle.oc_grammar.specs.Tables.{assignment, strength}
+use Rattle.oc_grammar.specs.Trees.{expr}
+use Rattle.oc_grammar.specs.Reading.{SameNext, Found, Refused, Leaves, Any, End, ended, Then, then, Maybe, stays, goes}
+use Rattle.oc_grammar.specs.Calls.{One, one, Placed, placed}
+use Rattle.oc_grammar.specs.Expressions.{Expression, Before, before, assign, choose, operation, at, Stops, Ends}
+use Rattle.oc_grammar.proofs.Reading.{start, turned, read, fails, ends, token_on, alone, Goes, sure, Closes, close_end, close_then, after_end, then_end, end_is}
+use Rattle.oc_grammar.proofs.Calls.{not_next, no_sign, after_one, placed_found, placed_refused}
 use Rattle.oc_expressions.specs.Parts.{AssignBy, assign_by, ChooseBy, choose_by}
-use Rattle.oc_expressions.proofs.Levels.{lower, operator_level, assignment_level, filled, stops_less, stops_kind, goes_kind, same_said, some_expr, some_before}
+use Rattle.oc_expressions.proofs.Levels.{lower, operator_level, assignment_level, filled, stops_less, stops_kind, goes_kind, same_said, some_expr}
 
 -- a form alone, where more could stand after it
 stay : {F : Expr → List Token → Type 0} {by : Spot × Expr → Token → Expr → List Token → Type 0} (l : Expr) (x : List Token) → F l x → Then (Placed F) (λ p. Maybe (by p) p.1) l x

@@ -1,5 +1,5 @@
 -- Levels: what the tables say of how tightly tokens bind, and the tokens that an expression begins with.
-use Rattle.std.proofs.Common.{◌≡◌, ℕ, zero, suc, ◌+◌, ◌≤◌, ◌<◌, List, [], ◌∷◌, ◌++◌, Option, Some, None, refl, sym, ◌∙◌, ap, arith, Bool, true, false, subst}
+use Rattle.std.proofs.Common.{◌≡◌, ℕ, ◌≤◌, ◌<◌, List, [], ◌∷◌, ◌++◌, Option, Some, refl, ap, arith, true}
 use Rattle.oc_values.specs.declared.integers.BinaryOp.{BinaryOp}
 use Rattle.oc_tree.specs.declared.parsed.Expr.{Expr}
 use Rattle.oc_tree.specs.declared.parsed.ExprNode.{ExprNode}
@@ -14,9 +14,8 @@ use Rattle.oc_grammar.specs.declared.tables.Prefix.{Prefix}
 use Rattle.oc_grammar.specs.declared.tables.Joint.{Joint}
 use Rattle.oc_grammar.specs.declared.tables.Opening.TheVariants as o
 use Rattle.oc_grammar.specs.Tokens.{Is, spot_at}
-use Rattle.oc_grammar.specs.Tables.{prefix, operator, assignment, bump, strength, opening}
+use Rattle.oc_grammar.specs.Tables.{prefix, operator, assignment, strength, opening}
 use Rattle.oc_grammar.specs.Trees.{expr, Leaf, number, character, text, null, truth, falsity}
-use Rattle.oc_grammar.specs.Reading.{SameNext}
 use Rattle.oc_grammar.specs.Expressions.{Rule, Expression, Before, before, assign, choose, operation, signed, cast, index, field, arrow, bumped, leaf, named, call, size, parens, at, Stops}
 use Rattle.oc_grammar.proofs.Reading.{Closes}
 use Rattle.oc_grammar.proofs.Calls.{made, is_made, spot_front}

@@ -1,8 +1,7 @@
 -- Parts: what is left of an expression after its first tokens.
-use Rattle.std.specs.Prelude.{◌≡◌, ℕ, ◌+◌, ◌<◌, ◌≤◌, List, [], ◌∷◌, ◌++◌, Bool, true, false, Option, Some, None}
+use Rattle.std.specs.Prelude.{◌≡◌, ℕ, ◌<◌, ◌≤◌, List, [], ◌∷◌, Bool, true, false, Option, Some, None}
 use Rattle.oc_values.specs.declared.integers.BinaryOp.{BinaryOp}
 use Rattle.oc_tree.specs.declared.spot.Spot.{Spot}
-use Rattle.oc_tree.specs.declared.parsed.TypeName.{TypeName}
 use Rattle.oc_tree.specs.declared.parsed.Expr.{Expr}
 use Rattle.oc_tree.specs.declared.parsed.ExprNode.{ExprNode}
 use Rattle.oc_tree.specs.declared.parsed.ExprNode.TheVariants as e
@@ -15,9 +14,9 @@ use Rattle.oc_lexer.specs.declared.token.Sign.TheVariants as s
 use Rattle.oc_grammar.specs.declared.tables.Opening.TheVariants as o
 use Rattle.oc_grammar.specs.declared.tables.Prefix.{Prefix}
 use Rattle.oc_grammar.specs.declared.tables.Joint.{Joint}
-use Rattle.oc_grammar.specs.Tokens.{Is, NotNext, SignStarts, NoSign, spot_at}
-use Rattle.oc_grammar.specs.Tables.{prefix, operator, assignment, bump, strength, opening}
-use Rattle.oc_grammar.specs.Trees.{expr, prefixed, joined, Leaf}
+use Rattle.oc_grammar.specs.Tokens.{Is, NotNext}
+use Rattle.oc_grammar.specs.Tables.{prefix, operator, assignment, opening}
+use Rattle.oc_grammar.specs.Trees.{expr, prefixed, Leaf}
 use Rattle.oc_grammar.specs.Reading.{End, Then, By, Maybe, Loop}
 use Rattle.oc_grammar.specs.Calls.{One, ANamed, Placed}
 use Rattle.oc_grammar.specs.Expressions.{Expression, Before, Arguments, Stops}

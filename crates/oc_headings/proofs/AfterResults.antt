@@ -1,5 +1,5 @@
 -- Functions, after their result.
-use Rattle.std.proofs.Common.{◌≡◌, ℕ, List, [], ◌∷◌, ◌++◌, Bool, true, false, Option, Some, None, refl, sym, ◌∙◌, ap, append-nil, append_assoc, subst}
+use Rattle.std.proofs.Common.{◌≡◌, List, [], ◌∷◌, ◌++◌, Bool, true, false, Option, Some, None, refl, sym, ◌∙◌, ap, append-nil, append_assoc, subst}
 use Rattle.oc_tree.specs.declared.parsed.TypeName.{TypeName}
 use Rattle.oc_tree.specs.declared.parsed.Param.{Param}
 use Rattle.oc_tree.specs.declared.parsed.Stmt.{Stmt}
@@ -14,7 +14,7 @@ use Rattle.oc_grammar.specs.Reading.{SameNext, Found, Refused, Leaves, Any, End,
 use Rattle.oc_grammar.specs.Calls.{One, one, ANamed, a_named}
 use Rattle.oc_grammar.specs.Statements.{Block, braces, no_step}
 use Rattle.oc_grammar.specs.Headings.{Mark, unmarked, marked, Body, prototype, body, function, AfterResult, after_result}
-use Rattle.oc_grammar.proofs.Reading.{start, turned, also, read, fails, ends, through, through_fails, Goes, Closes, close_end, close_then, after_end, then_end, sure, taken}
+use Rattle.oc_grammar.proofs.Reading.{start, turned, also, read, fails, ends, Goes, Closes, close_end, close_then, after_end, then_end, sure, taken}
 use Rattle.oc_grammar.proofs.Calls.{made, is_made, not_next, close_one}
 use Rattle.oc_headings.specs.declared.functions.Heading.{Heading}
 use Rattle.oc_headings.specs.Shapes.{NoObliv, closed_parameters, heading, signature}

@@ -1,20 +1,18 @@
 -- Fields of a struct definition.
-use Rattle.std.proofs.Common.{◌≡◌, ℕ, List, [], ◌∷◌, ◌++◌, refl, sym, ◌∙◌, ap, append-nil, append_assoc, subst}
+use Rattle.std.proofs.Common.{◌≡◌, List, [], ◌∷◌, ◌++◌, refl, append_assoc, subst}
 use Rattle.oc_tree.specs.declared.parsed.BaseName.{BaseName}
 use Rattle.oc_tree.specs.declared.parsed.FieldDef.{FieldDef}
 use Rattle.oc_lexer.specs.declared.token.Token.{Token}
-use Rattle.oc_lexer.specs.declared.token.TokenKind.TheVariants.{Name, Keyword, Sign}
-use Rattle.oc_lexer.specs.declared.token.Keyword.TheVariants as w
+use Rattle.oc_lexer.specs.declared.token.TokenKind.TheVariants.{Name, Sign}
 use Rattle.oc_lexer.specs.declared.token.Sign.TheVariants as s
-use Rattle.oc_grammar.specs.declared.taking.Named.{Named}
 use Rattle.oc_grammar.specs.Tokens.{Is, Starts, NotNext}
 use Rattle.oc_grammar.specs.Reading.{SameNext, Found, Refused, Leaves, Any, End, ended, Then, then}
-use Rattle.oc_grammar.specs.Calls.{One, one, a_named}
-use Rattle.oc_grammar.specs.WrittenTypes.{Base, Stars, no_star, star, Declr, declr, no_dim, Commas, last, more}
+use Rattle.oc_grammar.specs.Calls.{One, one}
+use Rattle.oc_grammar.specs.WrittenTypes.{Base, no_star, star, Declr, declr, no_dim, Commas, last, more}
 use Rattle.oc_grammar.specs.Headings.{Fields, fields}
-use Rattle.oc_grammar.proofs.Reading.{start, turned, also, read, fails, ends, Goes, Closes, close_end, close_then, after_end, then_end, sure, end_is, taken, no_token, same_token}
+use Rattle.oc_grammar.proofs.Reading.{start, turned, also, read, fails, ends, Goes, Closes, close_end, close_then, sure, taken}
 use Rattle.oc_grammar.proofs.Calls.{made, is_made, not_next, close_one, after_one}
-use Rattle.oc_declarators.specs.Forms.{NoWord, BeforeNoWord, NoBracket}
+use Rattle.oc_declarators.specs.Forms.{NoWord, BeforeNoWord}
 use Rattle.oc_declarators.proofs.Marks.{base_in, some_base}
 use Rattle.oc_expressions.specs.Parts.{BeginsType}
 use Rattle.oc_headings.proofs.Firsts.{base_first, not_type_first}

@@ -1,14 +1,12 @@
 -- What a written type begins with.
-use Rattle.std.proofs.Common.{◌≡◌, List, [], ◌∷◌, ◌++◌, refl, sym, ◌∙◌, ap, append_assoc, subst}
+use Rattle.std.proofs.Common.{◌≡◌, List, ◌∷◌, ◌++◌, sym, ◌∙◌, ap, subst}
 use Rattle.oc_tree.specs.declared.parsed.BaseName.{BaseName}
-use Rattle.oc_tree.specs.declared.parsed.Param.{Param}
-use Rattle.oc_tree.specs.declared.parsed.FieldDef.{FieldDef}
 use Rattle.oc_lexer.specs.declared.token.Token.{Token}
 use Rattle.oc_lexer.specs.declared.token.TokenKind.{TokenKind}
 use Rattle.oc_grammar.specs.declared.tables.Opening.TheVariants as o
 use Rattle.oc_grammar.specs.Tokens.{Is}
 use Rattle.oc_grammar.specs.Tables.{opening}
-use Rattle.oc_grammar.specs.Reading.{SameNext, Then, then, By, first}
+use Rattle.oc_grammar.specs.Reading.{then, By, first}
 use Rattle.oc_grammar.specs.WrittenTypes.{Base}
 use Rattle.oc_declarators.specs.Forms.{base_after}
 use Rattle.oc_declarators.proofs.Marks.{base_out}

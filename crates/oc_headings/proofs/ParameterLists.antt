@@ -1,5 +1,5 @@
 -- Parameters of a function.
-use Rattle.std.proofs.Common.{◌≡◌, ℕ, List, [], ◌∷◌, ◌++◌, refl, sym, ◌∙◌, ap, append-nil, append_assoc, subst}
+use Rattle.std.proofs.Common.{◌≡◌, ℕ, List, [], ◌∷◌, ◌++◌, refl, ap, append-nil, append_assoc, subst}
 use Rattle.oc_tree.specs.declared.parsed.BaseName.{BaseName}
 use Rattle.oc_tree.specs.declared.parsed.Param.{Param}
 use Rattle.oc_tree.specs.declared.parsed.ParamArray.{ParamArray}
@@ -13,11 +13,10 @@ use Rattle.oc_grammar.specs.Tokens.{Is, Starts, NotNext}
 use Rattle.oc_grammar.specs.Reading.{SameNext, Found, Refused, Leaves, Any, End, ended, Then, then, Maybe, stays, goes}
 use Rattle.oc_grammar.specs.Calls.{One, one, ANamed, a_named}
 use Rattle.oc_grammar.specs.WrittenTypes.{Base, Stars, no_star, star, Commas, last, more}
-use Rattle.oc_grammar.specs.Headings.{Brackets, plain, open_brackets, sized, Parameter, parameter, param, Parameters, no_parameter, void_parameter, parameters}
+use Rattle.oc_grammar.specs.Headings.{Brackets, plain, open_brackets, sized, Parameter, parameter, param, no_parameter, void_parameter, parameters}
 use Rattle.oc_grammar.proofs.Reading.{start, turned, also, alone, token_on, read, fails, ends, Goes, Closes, close_end, close_then, after_end, after_then, then_end, sure, taken}
 use Rattle.oc_grammar.proofs.Calls.{made, is_made, not_next, close_one, after_one}
-use Rattle.oc_declarators.specs.Forms.{NoWord, BeforeNoWord, NoStar, NoBracket, ALength, a_length, dim_rest}
-use Rattle.oc_declarators.proofs.Marks.{base_in, some_base}
+use Rattle.oc_declarators.specs.Forms.{NoWord, BeforeNoWord, NoStar, NoBracket, a_length, dim_rest}
 use Rattle.oc_expressions.specs.Parts.{BeginsType}
 use Rattle.oc_headings.specs.Shapes.{ListEnds, closed_parameters}
 use Rattle.oc_headings.proofs.Firsts.{base_first, not_type_first}

@@ -1,10 +1,9 @@
 -- Struct definitions and functions, as they stand in a source.
-use Rattle.std.proofs.Common.{◌≡◌, ℕ, List, [], ◌∷◌, ◌++◌, Bool, true, false, Option, Some, None, refl, sym, ◌∙◌, ap, append-nil, append_assoc, subst}
+use Rattle.std.proofs.Common.{◌≡◌, ℕ, List, [], ◌∷◌, ◌++◌, false, Option, Some, None, refl, sym, ◌∙◌, ap, append-nil, append_assoc, subst}
 use Rattle.oc_tree.specs.declared.spot.Spot.{Spot}
 use Rattle.oc_tree.specs.declared.parsed.BaseName.{BaseName}
 use Rattle.oc_tree.specs.declared.parsed.TypeName.{TypeName}
 use Rattle.oc_tree.specs.declared.parsed.FieldDef.{FieldDef}
-use Rattle.oc_tree.specs.declared.parsed.StructDef.{StructDef}
 use Rattle.oc_tree.specs.declared.parsed.Function.{Function}
 use Rattle.oc_lexer.specs.declared.token.Token.{Token}
 use Rattle.oc_lexer.specs.declared.token.TokenKind.TheVariants.{Name, Keyword, Sign}
@@ -18,9 +17,9 @@ use Rattle.oc_grammar.specs.Trees.{struct_base, type_name}
 use Rattle.oc_grammar.specs.Reading.{SameNext, Found, Refused, Leaves, Any, End, ended, Then, then, By, first}
 use Rattle.oc_grammar.specs.Calls.{One, one, ANamed, a_named}
 use Rattle.oc_grammar.specs.WrittenTypes.{Base, a_struct, Stars, no_star, star, TypeNamed, type_named}
-use Rattle.oc_grammar.specs.Headings.{Fields, AllFields, last_fields, more_fields, Struct, struct, struct_def, Result, void, typed, AfterResult, after_result, FunctionSpelled, a_function}
-use Rattle.oc_grammar.proofs.Reading.{start, turned, also, read, fails, ends, through, through_fails, Goes, Closes, close_end, close_then, after_end, after_then, then_end, sure, taken}
-use Rattle.oc_grammar.proofs.Calls.{made, is_made, not_next, close_one, after_one}
+use Rattle.oc_grammar.specs.Headings.{Fields, AllFields, last_fields, more_fields, struct, struct_def, void, typed, AfterResult, after_result, a_function}
+use Rattle.oc_grammar.proofs.Reading.{start, also, read, fails, ends, Goes, Closes, close_end, close_then, then_end, sure, taken}
+use Rattle.oc_grammar.proofs.Calls.{not_next, close_one}
 use Rattle.oc_declarators.specs.Forms.{NoWord, BeforeNoWord, NoStar, named_struct, base_after}
 use Rattle.oc_declarators.proofs.Marks.{base_in, base_out, some_base}
 use Rattle.oc_expressions.specs.Parts.{BeginsType}

@@ -35,10 +35,7 @@ fn brackets(tokens: &[Token]) -> Result<(ParamArray, &[Token]), ParseError<'_>>
 }
 
 // Reads a parameter.
-fn param<'t>(
-    alloc: Global,
-    tokens: &'t [Token],
-) -> Result<(Param, &'t [Token]), ParseError<'t>>
+fn param<'t>(alloc: Global, tokens: &'t [Token]) -> Result<(Param, &'t [Token]), ParseError<'t>>
     ensures reads { Reads Parameter NoBracket tokens.now result }
     ensures shorter { IfOk result (λ found. length found.1.now < length tokens.now) }
 {

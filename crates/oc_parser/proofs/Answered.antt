@@ -1,5 +1,5 @@
 -- What an answer says of the tokens.
-use Rattle.std.proofs.Common.{◌≡◌, ℕ, suc, ◌≤◌, ◌<◌, List, [], ◌∷◌, ◌++◌, length, drop, slice_index, refl, sym, ◌∙◌, ap, append-nil, subst, arith}
+use Rattle.std.proofs.Common.{◌≡◌, ℕ, List, [], ◌++◌, length, drop, refl, sym, ◌∙◌, ap, append-nil, subst, arith}
 use Rattle.std.proofs.Math.Logic.{⊎_elim}
 use Rattle.std.proofs.Math.Nat.{eq-or-lt_of_le}
 use Rattle.std.proofs.lemmas.Bool.{cases_lt}
@@ -12,8 +12,8 @@ use Rattle.oc_grammar.specs.Headings.{Derives, program}
 use Rattle.oc_parser.specs.declared.faults.ParseRule.{ParseRule}
 use Rattle.oc_parser.specs.declared.faults.ParseRule.TheVariants.{G1, G2}
 use Rattle.oc_parser.specs.Places.{spot_from, place_spot}
-use Rattle.oc_parser.specs.Load.{loads, IsLight, HeavyAt}
-use Rattle.oc_parser.specs.Refusals.{IsFault, Refuses}
+use Rattle.oc_parser.specs.Load.{IsLight, HeavyAt}
+use Rattle.oc_parser.specs.Refusals.{Refuses}
 use Rattle.oc_parser.specs.Programs.{program_of, Whole, whole, AtEnd}
 use Rattle.oc_parser.proofs.Loads.{drop_front}
 use Rattle.oc_parser.proofs.Faulty.{is_fault, same_fault, spelled_no_fault, one_fault}

@@ -1,10 +1,8 @@
 -- Sums of counts.
-use Rattle.std.proofs.Common.{◌≡◌, ℕ, ◌+◌, List, [], ◌∷◌, ◌++◌, reverse, refl, sym, ◌∙◌, ap, arith, add_assoc, zero-add}
+use Rattle.std.proofs.Common.{◌≡◌, ◌+◌, List, [], ◌∷◌, ◌++◌, reverse, refl, sym, ◌∙◌, ap, arith, add_assoc, zero-add}
 use Rattle.std.proofs.lemmas.List.{reverse-append}
 use Rattle.oc_parser.specs.declared.entries.Entry.{Entry}
-use Rattle.oc_parser.specs.declared.entries.Counts.{Counts}
-use Rattle.oc_parser.specs.Load.{Stack, load, total}
-use Rattle.oc_parser.specs.Stacks.{stack_of}
+use Rattle.oc_parser.specs.Load.{total}
 
 pub total-append : (xs ys : List Entry) → total (xs ++ ys) ≡ total xs + total ys
 total-append [] ys = sym (zero-add (total ys))

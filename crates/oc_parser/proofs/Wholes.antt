@@ -1,5 +1,5 @@
 -- Parts of a program one after the other.
-use Rattle.std.proofs.Common.{◌≡◌, ◌==◌, ℕ, Bool, true, false, List, [], ◌∷◌, ◌++◌, length, refl, sym, ◌∙◌, ap, append-nil, append_assoc, subst}
+use Rattle.std.proofs.Common.{◌≡◌, ◌==◌, Bool, true, false, List, [], ◌∷◌, ◌++◌, length, refl, sym, ◌∙◌, append-nil, append_assoc, subst}
 use Rattle.std.proofs.lemmas.Bool.{eqb-true}
 use Rattle.std.proofs.lemmas.List.{nil_from_length}
 use Rattle.oc_tree.specs.declared.spot.Spot.{Spot}
@@ -13,7 +13,6 @@ use Rattle.oc_grammar.specs.Headings.{Struct, struct, void, typed, FunctionSpell
 use Rattle.oc_grammar.proofs.Reading.{start, turned, also, read, fails, ends, Closes, sure}
 use Rattle.oc_expressions.specs.Parts.{BeginsType}
 use Rattle.oc_headings.specs.declared.parts.Part.{Part}
-use Rattle.oc_headings.specs.declared.parts.Part.TheVariants as part
 use Rattle.oc_headings.specs.Shapes.{APart, a_struct_part, a_function_part}
 use Rattle.oc_headings.proofs.Firsts.{base_first}
 use Rattle.oc_parser.specs.Programs.{program_of, Whole, whole, AtEnd, with_part}

@@ -1,7 +1,7 @@
 -- Load: how deep the tokens of a source nest. A stack of entries counts the tokens of what is open: of each
 -- block the statement that isn't finished, with the brackets that are open in it. The load of a token is the
 -- sum of all counts.
-use Rattle.std.specs.Prelude.{ℕ, ◌+◌, ◌-◌, ◌<◌, ◌≤◌, List, [], ◌∷◌, slice_index, Bool, true, false, nat_lt, ◌||◌, if◌then◌else◌}
+use Rattle.std.specs.Prelude.{ℕ, ◌+◌, ◌-◌, ◌<◌, ◌≤◌, List, [], ◌∷◌, slice_index, Bool, true, false, nat_lt, ◌||◌}
 use Rattle.oc_lexer.specs.declared.token.Token.{Token}
 use Rattle.oc_lexer.specs.declared.token.TokenKind.{TokenKind}
 use Rattle.oc_lexer.specs.declared.token.TokenKind.TheVariants.{Keyword, Sign}

@@ -1,4 +1,4 @@
-use Rattle.std.proofs.Common.{◌≡◌, sym, ◌∙◌}
+use Rattle.std.proofs.Common.{sym, ◌∙◌}
 use Rattle.oc_grammar.proofs.Reading.{by_end, by_none, by_left, through, through_fails}
 use Rattle.oc_grammar.proofs.Calls.{mapped}
 use Rattle.oc_declarators.proofs.Marks.{base_opened, some_base, only_marked_base, marked_base}

@@ -1,4 +1,4 @@
-use Rattle.oc_declarators.proofs.Marks.{marked_read, not_marked}
+use Rattle.oc_declarators.proofs.Marks.{marked_read}
 use Rattle.oc_declarators.proofs.bases.marked.Goals as goal
 
 pub returns : goal.returns

@@ -1,4 +1,4 @@
-use Rattle.std.proofs.Common.{◌≡◌, sym, ◌∙◌}
+use Rattle.std.proofs.Common.{sym, ◌∙◌}
 use Rattle.oc_declarators.proofs.Words.{sign_on, sign_other, sign_end}
 use Rattle.oc_declarators.proofs.integers.after_sign.Goals as goal
 

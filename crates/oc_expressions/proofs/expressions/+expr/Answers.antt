@@ -1,5 +1,5 @@
-use Rattle.std.proofs.Common.{◌≡◌, arith, ap, length, sym, ◌∙◌}
-use Rattle.oc_grammar.proofs.Reading.{start, through, through_fails}
+use Rattle.std.proofs.Common.{arith, ap, length}
+use Rattle.oc_grammar.proofs.Reading.{through, through_fails}
 use Rattle.oc_grammar.proofs.Calls.{error_on, mapped}
 use Rattle.oc_grammar.proofs.Lists as list
 use Rattle.oc_grammar.specs.Expressions.{Expression, Stops}

@@ -1,4 +1,4 @@
-use Rattle.std.proofs.Common.{◌≡◌, ℕ, ◌+◌, ◌<◌, ◌≤◌, length, ◌*◌, ◌∷◌, []}
+use Rattle.std.proofs.Common.{◌≡◌, ℕ, ◌+◌, ◌<◌, ◌≤◌, length, ◌*◌}
 use Rattle.oc_grammar.specs.Reading.{Leaves, Loop}
 use Rattle.oc_grammar.specs.Tokens.{spot_at}
 use Rattle.oc_grammar.specs.WrittenTypes.{Commas}

@@ -1,4 +1,3 @@
-use Rattle.std.proofs.Common.{arith}
 use Rattle.oc_grammar.proofs.Reading.{through, through_fails}
 use Rattle.oc_grammar.proofs.Calls.{error_on, mapped}
 use Rattle.oc_headings.proofs.Tops.{named_left, void_left, type_fails, type_read}

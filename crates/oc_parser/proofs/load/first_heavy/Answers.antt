@@ -1,4 +1,4 @@
-use Rattle.std.proofs.Common.{◌≡◌, ◌<◌, ◌≤◌, arith, subst, reverse}
+use Rattle.std.proofs.Common.{◌<◌, ◌≤◌, arith, subst, reverse}
 use Rattle.oc_parser.specs.Load.{stack, load, counted}
 use Rattle.oc_parser.proofs.Totals.{total-reverse}
 use Rattle.oc_parser.proofs.Loads.{Passed, pass, heavy, light}

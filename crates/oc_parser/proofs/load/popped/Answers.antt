@@ -1,4 +1,4 @@
-use Rattle.std.proofs.Common.{◌≡◌, ◌≤◌, Some, sym, ◌∙◌, arith, ap}
+use Rattle.std.proofs.Common.{◌≤◌, Some, sym, ◌∙◌, arith, ap}
 use Rattle.std.proofs.lemmas.List.Elements.{All-same, All-pop}
 use Rattle.oc_parser.specs.Load.{total}
 use Rattle.oc_parser.specs.declared.entries.Entry.{Entry}
