@@ -69,6 +69,7 @@ refused_front whole bytes r (inl e) h = at_length (cases_lt (length bytes) 10485
   where
     size : length bytes ≡ min 1048577 (length whole)
     size = ap length e ∙ length-take 1048577 whole
+
     at_length : (length bytes < 1048577) ⊎ (1048577 ≤ length bytes) → IsRefused whole r
     at_length (inl short) = subst (λ s. IsRefused s r) (sym (below_limit whole bytes 1048577 e short)) h
     at_length (inr long) = refused_long whole bytes r (omega (arith, long)) (omega (arith, size, long)) h

@@ -15,6 +15,15 @@ const SUM: &[u8] = b"void oc_main(void) {
 }
 ";
 
+/// The same, spelled in another way.
+const SPELLED: &[u8] = b"// A sum.
+#include <obliv.oh>
+#define FIRST 0x1
+void\toc_main ( /* nothing */ void )
+{ obliv signed int a = feedOblivInt(ocPrivate(00), FIRST);
+  obliv signed b = (feedOblivInt(ocPrivate('\\0'), 2)); int\nr;
+  revealOblivInt(&(r), (a) + b, 0x0); printf(\"%d\\n\", ((r))); }";
+
 /// The same with a sum of nine names.
 const NINE: &[u8] = b"void oc_main(void) {
  obliv int a = feedOblivInt(ocPrivate(0), 1);
@@ -251,6 +260,20 @@ fn inputs(rt: HostRuntime) -> Result<(), Fail> {
 }
 
 // The sum, with spaces at its end up to this length.
+fn nested(alloc: Global, depth: u32) -> Result<Vec<u8>, Fail> {
+    let mut source = Vec::new(alloc);
+    source.extend_from_slice(b"void oc_main(void) {int r;r=")?;
+    for _ in 0..depth {
+        source.push(b'(')?;
+    }
+    source.push(b'1')?;
+    for _ in 0..depth {
+        source.push(b')')?;
+    }
+    source.extend_from_slice(b";}\n")?;
+    Ok(source)
+}
+
 fn padded(alloc: Global, length: usize) -> Result<Vec<u8>, Fail> {
     let mut source = Vec::new(alloc);
     source.extend_from_slice(SUM)?;
@@ -274,29 +297,46 @@ fn printed(alloc: Global, times: u32) -> Result<Vec<u8>, Fail> {
 #[test]
 fn sources(rt: HostRuntime) -> Result<(), Fail> {
     let alloc = rt.alloc();
-    let refused: [&[u8]; 6] = [
-        b"",
-        b"void oc_main(void) {",
-        b"void oc_main(void) { int a; int a; }",
-        b"void\toc_main(void) {}",
-        b"void oc_main(void) {} \xff",
-        NINE,
+    let refused: [(&[u8], &[u8]); 12] = [
+        (b"", b"refused X1 1:1\n"),
+        (b"/* x", b"refused L2 1:1\n"),
+        (b"void oc_main(void) {", b"refused G1 1:21\n"),
+        (b"void oc_main(void) {} x", b"refused G1 1:23\n"),
+        (b"void oc_main(void) {}\n }", b"refused G1 2:2\n"),
+        (b"void oc_main(void) { int a; int a; }", b"refused X1 1:1\n"),
+        (b"void oc_main(void) {} \xff", b"refused L1 1:23\n"),
+        // The tokens of the whole source are looked at before its tree.
+        (b"void void\n089", b"refused L3 2:1\n"),
+        (b"int 9223372036854775808", b"refused L4 1:5\n"),
+        (b"\n\n  #include <math.h>\n", b"refused L5 3:3\n"),
+        (b"struct s { int a; };", b"refused X1 1:1\n"),
+        (NINE, b"refused X1 1:1\n"),
     ];
-    for source in refused {
+    for (source, line) in refused {
         let mut files = put_files(alloc, &[], source, b"5", b"7")?;
-        expect(
-            &rt,
-            alloc,
-            &COMMAND,
-            &mut files,
-            1,
-            b"",
-            b"refused X1 1:1\n",
-        )?;
+        expect(&rt, alloc, &COMMAND, &mut files, 1, b"", line)?;
     }
+    // Blanks, comments, directives and other spellings are free.
+    let mut spelled = put_files(alloc, &[], SPELLED, b"5", b"7")?;
+    expect(&rt, alloc, &COMMAND, &mut spelled, 0, b"12\n", b"")?;
     // The refusal of a source comes before the faults of an input.
     let mut both = put_files(alloc, &[], b"x", b"", b"")?;
-    expect(&rt, alloc, &COMMAND, &mut both, 1, b"", b"refused X1 1:1\n")?;
+    expect(&rt, alloc, &COMMAND, &mut both, 1, b"", b"refused G1 1:1\n")?;
+    // As many open parentheses as there may be, and one more.
+    let deepest = nested(alloc, 495)?;
+    let mut deep = put_files(alloc, &[], deepest.as_slice(), b"5", b"7")?;
+    expect(&rt, alloc, &COMMAND, &mut deep, 1, b"", b"refused X1 1:1\n")?;
+    let deeper = nested(alloc, 496)?;
+    let mut too_deep = put_files(alloc, &[], deeper.as_slice(), b"5", b"7")?;
+    expect(
+        &rt,
+        alloc,
+        &COMMAND,
+        &mut too_deep,
+        1,
+        b"",
+        b"refused G2 1:1021\n",
+    )?;
     // Four items before the prints: 100 items, and 101.
     let most = printed(alloc, 96)?;
     let mut hundred = put_files(alloc, &[], most.as_slice(), b"5", b"7")?;
@@ -321,7 +361,7 @@ fn sources(rt: HostRuntime) -> Result<(), Fail> {
     expect(&rt, alloc, &COMMAND, &mut files, 0, b"12\n", b"")?;
     let longer = padded(alloc, 1_048_577)?;
     let mut more = put_files(alloc, &[], longer.as_slice(), b"5", b"7")?;
-    expect(&rt, alloc, &COMMAND, &mut more, 1, b"", b"refused X1 1:1\n")?;
+    expect(&rt, alloc, &COMMAND, &mut more, 1, b"", b"refused L6 1:1\n")?;
     Ok(())
 }
 

@@ -16,23 +16,23 @@ use Rattle.oblivc_main.proofs.reading.read_tree.Goals as goal
 pub returns-in-Err-Refused : goal.returns-in-Err-Refused
 returns-in-Err-Refused c =
     rw (c.refused.ensures, c.in-Err-Refused.rule-is, c.in-Err-Refused.spot-is)
-      (lex_refuses c.args.source.now c.in-Err-Refused.rule c.in-Err-Refused.spot
-        (subst (λ e. IfUnlexed e (λ rule spot. HasNoTokens c.args.source.now rule spot)) c.in-Err-Refused.field-0-is c.in-Err-Refused.ensures.refused)
-        (subst (λ e. IfUnlexed e (λ rule spot. (tokens : List Token) → Spells c.args.source.now tokens → ⊥)) c.in-Err-Refused.field-0-is c.in-Err-Refused.ensures.none))
+    (lex_refuses c.args.source.now c.in-Err-Refused.rule c.in-Err-Refused.spot
+    (subst (λ e. IfUnlexed e (λ rule spot. HasNoTokens c.args.source.now rule spot)) c.in-Err-Refused.field-0-is c.in-Err-Refused.ensures.refused)
+    (subst (λ e. IfUnlexed e (λ rule spot. (tokens : List Token) → Spells c.args.source.now tokens → ⊥)) c.in-Err-Refused.field-0-is c.in-Err-Refused.ensures.none))
 
 pub returns-in-Err-Refused-parse : goal.returns-in-Err-Refused-parse
 returns-in-Err-Refused-parse c =
     let is : IsLexed c.args.source.now c.in-Ok.lexed = record { spelled = c.in-Ok.ensures.spelled; end = c.in-Ok.ensures.end } in
     rw (c.refused-in-Err-Refused-parse.ensures, c.in-Err-Refused-parse.rule-is, c.in-Err-Refused-parse.spot-is)
-      (parse_refuses c.args.source.now c.in-Ok.lexed is c.in-Ok.ensures.only c.in-Err-Refused-parse.rule c.in-Err-Refused-parse.spot
-        (subst (λ e. IfUnparsed e (λ rule spot. HasNoTree c.in-Ok.lexed rule spot)) c.in-Err-Refused-parse.field-0-is c.in-Err-Refused-parse.ensures.refused)
-        (subst (λ e. IfUnparsed e (λ rule spot. (program : Program) → Derives program c.in-Ok.lexed.tokens → IsLight c.in-Ok.lexed.tokens → ⊥)) c.in-Err-Refused-parse.field-0-is c.in-Err-Refused-parse.ensures.none))
+    (parse_refuses c.args.source.now c.in-Ok.lexed is c.in-Ok.ensures.only c.in-Err-Refused-parse.rule c.in-Err-Refused-parse.spot
+    (subst (λ e. IfUnparsed e (λ rule spot. HasNoTree c.in-Ok.lexed rule spot)) c.in-Err-Refused-parse.field-0-is c.in-Err-Refused-parse.ensures.refused)
+    (subst (λ e. IfUnparsed e (λ rule spot. (program : Program) → Derives program c.in-Ok.lexed.tokens → IsLight c.in-Ok.lexed.tokens → ⊥)) c.in-Err-Refused-parse.field-0-is c.in-Err-Refused-parse.ensures.none))
 
 pub returns-in-Ok-None : goal.returns-in-Ok-None
 returns-in-Ok-None c =
     let is : IsLexed c.args.source.now c.in-Ok.lexed = record { spelled = c.in-Ok.ensures.spelled; end = c.in-Ok.ensures.end } in
     subst (λ s. ReadsTree c.args.source.now (Err s)) (sym c.refused-in-Ok-None.ensures)
-      (form_refuses c.args.source.now c.in-Ok.lexed is c.in-Ok.ensures.only c.in-Ok-parse.program
-        (parsed c.args.source.now c.in-Ok.lexed is c.in-Ok.ensures.only c.in-Ok-parse.program c.in-Ok-parse.ensures.light c.in-Ok-parse.ensures.derives c.in-Ok-parse.ensures.end)
-        c.in-Ok-parse.ensures.end c.in-Ok-parse.ensures.only
-        (subst (λ o. IfNone o ((t : Typed) → First c.in-Ok-parse.program t → ⊥)) c.in-Ok-None.field-0-is c.in-Ok-None.ensures.none))
+    (form_refuses c.args.source.now c.in-Ok.lexed is c.in-Ok.ensures.only c.in-Ok-parse.program
+    (parsed c.args.source.now c.in-Ok.lexed is c.in-Ok.ensures.only c.in-Ok-parse.program c.in-Ok-parse.ensures.light c.in-Ok-parse.ensures.derives c.in-Ok-parse.ensures.end)
+    c.in-Ok-parse.ensures.end c.in-Ok-parse.ensures.only
+    (subst (λ o. IfNone o ((t : Typed) → First c.in-Ok-parse.program t → ⊥)) c.in-Ok-None.field-0-is c.in-Ok-None.ensures.none))
