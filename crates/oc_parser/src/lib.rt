@@ -6,8 +6,8 @@
 //! is deeper than the load allows; then it reads one part of the program after another (`programs`).
 #![tactic(auto)]
 
-pub mod entries;
-pub mod faults;
+mod entries;
+mod faults;
 mod load;
 mod parsing;
 mod programs;
