@@ -1,0 +1,93 @@
+#!/usr/bin/env python3
+"""Times the command `clear` on long sources of several forms, and prints a table for docs/PERFORMANCE.md.
+
+All but the first are refused only because their trees aren't of the first form, so both their tokens and their trees
+are read. Each time is the least of five runs, with the start of the process. Run it after the program was built by the
+launcher, or name another built program.
+"""
+
+import pathlib
+import subprocess
+import sys
+import tempfile
+import time
+
+TOP = pathlib.Path(__file__).resolve().parent.parent
+RUNS = 5
+SIZES = [262_144, 524_288, 1_048_576]
+REFUSED = b"refused X1 1:1\n"
+
+
+def filled(start, line_of, end, size):
+    lines, left, count = [], size - len(start) - len(end), 0
+    while left >= 40:
+        line = line_of(count)
+        if len(line) > left:
+            break
+        lines.append(line)
+        left -= len(line)
+        count += 1
+    return start + b"".join(lines) + end + b"\n" * left
+
+
+def blanks(size):
+    source = (TOP / "examples" / "sum.oc").read_bytes()
+    return source + b" " * (size - len(source))
+
+
+def ordinary(size):
+    part = (
+        b"/* A part. */\nint part%d(int a, obliv int b) {\n  int t = a * 2 + 1;\n  for (int i = 0; i < 10; i++) {\n"
+        b"    if (t > a && i %% 2 == 0) t += i; else t -= a;\n  }\n  printf(\"%%d\\n\", t);\n  return t;\n}\n"
+    )
+    return filled(b"#include <stdio.h>\n", lambda i: part % i, b"", size)
+
+
+def statements(size):
+    return filled(b"void oc_main(void) {\n", lambda i: b"a = b + %d;\n" % i, b"}\n", size)
+
+
+def expressions(size):
+    line = b"r = " + b" + ".join([b"a * b"] * 240) + b";\n"
+    return filled(b"void oc_main(void) {\n", lambda i: line, b"}\n", size)
+
+
+def names(size):
+    return filled(b"void oc_main(void) {\n", lambda i: b"int name%d;\n" % i, b"}\n", size)
+
+
+def defines(size):
+    return filled(b"", lambda i: b"#define N%d %d\n" % (i, i), b"", size)
+
+
+def least_time(program, folder, source):
+    (folder / "program.oc").write_bytes(source)
+    times = []
+    for _ in range(RUNS):
+        start = time.perf_counter()
+        ran = subprocess.run(
+            [program, "clear", "program.oc", "--input1", "input", "--input2", "input"], cwd=folder, capture_output=True, check=False
+        )
+        times.append(time.perf_counter() - start)
+        if ran.returncode > 1 or (ran.returncode == 1 and ran.stderr != REFUSED):
+            sys.exit(f"status {ran.returncode}, {ran.stderr!r}")
+    return min(times)
+
+
+def main():
+    program = pathlib.Path(sys.argv[1] if len(sys.argv) > 1 else TOP / "oblivcc-build" / "oblivcc").resolve()
+    if not program.exists():
+        sys.exit("there is no program: run ./oblivcc first")
+    print("| Source |", " | ".join(f"{size // 1024} KiB" for size in SIZES), "| Most of one to the one before |")
+    print("|---|---|---|---|---|")
+    with tempfile.TemporaryDirectory() as name:
+        folder = pathlib.Path(name)
+        (folder / "input").write_bytes(b"5\n")
+        for form in [blanks, ordinary, statements, expressions, names, defines]:
+            times = [least_time(program, folder, form(size)) for size in SIZES]
+            most = max(after / before for before, after in zip(times, times[1:]))
+            print(f"| {form.__name__} |", " | ".join(f"{took * 1000:.0f} ms" for took in times), f"| {most:.2f} |")
+
+
+if __name__ == "__main__":
+    main()
