@@ -2,7 +2,7 @@
 """Times the command `clear` on long sources of several forms, and prints a table for docs/PERFORMANCE.md.
 
 All but the first are refused only because their trees aren't of the first form, so both their tokens and their trees
-are read. Each time is the least of five runs, with the start of the process. Run it after the program was built by the
+are read. Each time is the least of twenty runs, with the start of the process. Run it after the program was built by the
 launcher, or name another built program.
 """
 
@@ -13,7 +13,7 @@ import tempfile
 import time
 
 TOP = pathlib.Path(__file__).resolve().parent.parent
-RUNS = 5
+RUNS = 20
 SIZES = [262_144, 524_288, 1_048_576]
 REFUSED = b"refused X1 1:1\n"
 
