@@ -1,4 +1,5 @@
-//! Work for a stopwatch: makes and ends of blocks, or stores and loads, beside a number of live cells.
+//! Work for a stopwatch: makes and ends of blocks, or stores and loads, beside a number of live cells and after a
+//! number of blocks that are gone.
 #![tactic(auto)]
 
 use block_memory::{Address, Blocks, CType, CellValue};
@@ -15,6 +16,7 @@ const LIMIT: u32 = 65_536;
 struct Work {
     accesses: bool,
     live: u32,
+    gone: u64,
     count: u64,
 }
 
@@ -23,10 +25,12 @@ fn read_work(rt: &HostRuntime) -> Option<Work> {
     words.next()?;
     let kind = words.next()?;
     let live = words.next()?.parse::<u32>().ok()?;
+    let gone = words.next()?.parse::<u64>().ok()?;
     let count = words.next()?.parse::<u64>().ok()?;
     Some(Work {
         accesses: kind.as_str() == "accesses",
         live,
+        gone,
         count,
     })
 }
@@ -84,6 +88,7 @@ fn perform(alloc: Global, work: &Work) -> Result<u64, NoMemory> {
     };
     let mut blocks = Blocks::new(alloc, &structs, LIMIT)?;
     fill(&mut blocks, &ty, work.live)?;
+    make_and_end(&mut blocks, &ty, work.gone)?;
     if work.accesses {
         return Ok(store_and_load(&mut blocks, work.live, work.count));
     }
@@ -92,7 +97,7 @@ fn perform(alloc: Global, work: &Work) -> Result<u64, NoMemory> {
 
 fn main(rt: HostRuntime) -> ExitCode {
     let Some(asked) = read_work(&rt) else {
-        return match println!(rt; "memory_speed makes|accesses LIVE COUNT") {
+        return match println!(rt; "memory_speed makes|accesses LIVE GONE COUNT") {
             Ok(()) => ExitCode::SUCCESS,
             Err(_) => ExitCode::FAILURE,
         };

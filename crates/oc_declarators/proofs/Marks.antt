@@ -13,7 +13,8 @@ use Rattle.oc_grammar.specs.declared.tables.Opening.{Opening}
 use Rattle.oc_grammar.specs.declared.tables.Opening.TheVariants as o
 use Rattle.oc_grammar.specs.Tokens.{Is, spot_at}
 use Rattle.oc_grammar.specs.Tables.{opening}
-use Rattle.oc_grammar.specs.Trees.{int_base, struct_base}
+use Rattle.oc_tree.specs.Parsed.{int_base}
+use Rattle.oc_grammar.specs.Trees.{struct_base}
 use Rattle.oc_grammar.specs.Reading.{Found, Refused, Leaves, Any, End, ended, Then, then, By, first}
 use Rattle.oc_grammar.specs.Calls.{ANamed, a_named}
 use Rattle.oc_grammar.specs.WrittenTypes.{Ints, Base, plain_int, obliv_int, frozen_int, frozen_obliv, obliv_frozen, a_struct, frozen_struct}

@@ -10,7 +10,8 @@ use Rattle.oc_lexer.specs.declared.token.TokenKind.TheVariants.{Name, Number, Si
 use Rattle.oc_lexer.specs.declared.token.Sign.TheVariants as s
 use Rattle.oc_grammar.specs.declared.taking.Named.{Named}
 use Rattle.oc_grammar.specs.Tokens.{Is, Starts, NotNext}
-use Rattle.oc_grammar.specs.Trees.{field, type_name}
+use Rattle.oc_tree.specs.Parsed.{field}
+use Rattle.oc_grammar.specs.Trees.{type_name}
 use Rattle.oc_grammar.specs.Reading.{SameNext, Found, Refused, Leaves, Any, End, ended, Then, then, Loop, at_last, turn}
 use Rattle.oc_grammar.specs.Calls.{One, one, ANamed, a_named}
 use Rattle.oc_grammar.specs.WrittenTypes.{Base, Stars, no_star, star, Dims, no_dim, dim, Declr, declr, type_named}

@@ -17,7 +17,8 @@ use Rattle.oc_grammar.specs.declared.tables.Opening.{Opening}
 use Rattle.oc_grammar.specs.declared.tables.Opening.TheVariants as o
 use Rattle.oc_grammar.specs.Tokens.{Is, NotNext}
 use Rattle.oc_grammar.specs.Tables.{kind_of, opening}
-use Rattle.oc_grammar.specs.Trees.{int_base, struct_base}
+use Rattle.oc_tree.specs.Parsed.{int_base}
+use Rattle.oc_grammar.specs.Trees.{struct_base}
 use Rattle.oc_grammar.specs.Reading.{End, Then, By, Maybe}
 use Rattle.oc_grammar.specs.Calls.{One, ANamed}
 use Rattle.oc_grammar.specs.WrittenTypes.{Optional, Ints, TypeNamed}

@@ -10,7 +10,7 @@ use Rattle.oc_lexer.specs.declared.token.Sign.{Sign as SignType}
 use Rattle.oc_lexer.specs.declared.token.Sign.TheVariants as s
 use Rattle.oc_grammar.specs.Tokens.{Starts, NotNext, SignStarts, NoSign, spot_at}
 use Rattle.oc_grammar.specs.Tables.{assignment, strength}
-use Rattle.oc_grammar.specs.Trees.{expr}
+use Rattle.oc_tree.specs.Parsed.{expr}
 use Rattle.oc_grammar.specs.Reading.{SameNext, Found, Refused, Leaves, Any, End, ended, Then, then, Maybe, stays, goes}
 use Rattle.oc_grammar.specs.Calls.{One, one, Placed, placed}
 use Rattle.oc_grammar.specs.Expressions.{Expression, Before, before, assign, choose, operation, at, Stops, Ends}

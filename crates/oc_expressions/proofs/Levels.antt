@@ -15,7 +15,8 @@ use Rattle.oc_grammar.specs.declared.tables.Joint.{Joint}
 use Rattle.oc_grammar.specs.declared.tables.Opening.TheVariants as o
 use Rattle.oc_grammar.specs.Tokens.{Is, spot_at}
 use Rattle.oc_grammar.specs.Tables.{prefix, operator, assignment, strength, opening}
-use Rattle.oc_grammar.specs.Trees.{expr, Leaf, number, character, text, null, truth, falsity}
+use Rattle.oc_tree.specs.Parsed.{expr}
+use Rattle.oc_grammar.specs.Trees.{Leaf, number, character, text, null, truth, falsity}
 use Rattle.oc_grammar.specs.Expressions.{Rule, Expression, Before, before, assign, choose, operation, signed, cast, index, field, arrow, bumped, leaf, named, call, size, parens, at, Stops}
 use Rattle.oc_grammar.proofs.Reading.{Closes}
 use Rattle.oc_grammar.proofs.Calls.{made, is_made, spot_front}

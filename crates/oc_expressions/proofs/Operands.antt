@@ -10,7 +10,8 @@ use Rattle.oc_lexer.specs.declared.token.Sign.{Sign as SignType}
 use Rattle.oc_lexer.specs.declared.token.Sign.TheVariants as s
 use Rattle.oc_grammar.specs.Tokens.{Is, spot_at}
 use Rattle.oc_grammar.specs.Tables.{bump}
-use Rattle.oc_grammar.specs.Trees.{expr, prefixed, Leaf}
+use Rattle.oc_tree.specs.Parsed.{expr}
+use Rattle.oc_grammar.specs.Trees.{prefixed, Leaf}
 use Rattle.oc_grammar.specs.Reading.{ended, Then, then, first, stays, goes, at_last, turn}
 use Rattle.oc_grammar.specs.Calls.{one, a_named, Placed, placed}
 use Rattle.oc_grammar.specs.Expressions.{Rule, Expression, Before, assign, choose, operation, signed, cast, index, field, arrow, bumped, leaf, named, call, size, parens, at}

@@ -8,7 +8,8 @@ use Rattle.oc_lexer.specs.declared.token.Sign.{Sign as SignType}
 use Rattle.oc_grammar.specs.declared.tables.Joint.{Joint}
 use Rattle.oc_grammar.specs.Tokens.{Is, spot_at}
 use Rattle.oc_grammar.specs.Tables.{operator}
-use Rattle.oc_grammar.specs.Trees.{expr, joined}
+use Rattle.oc_tree.specs.Parsed.{expr}
+use Rattle.oc_grammar.specs.Trees.{joined}
 use Rattle.oc_grammar.specs.Reading.{SameNext, Found, Refused, Leaves, Then, then, Maybe, stays, goes}
 use Rattle.oc_grammar.specs.Calls.{Placed, placed}
 use Rattle.oc_grammar.specs.Expressions.{Rule, Expression, assign, choose, operation, at, Stops, Ends}

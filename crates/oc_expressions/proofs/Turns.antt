@@ -16,7 +16,8 @@ use Rattle.oc_grammar.specs.declared.taking.Named.{Named}
 use Rattle.oc_grammar.specs.declared.tables.Opening.TheVariants as o
 use Rattle.oc_grammar.specs.Tokens.{Is, Starts, NotNext, SignStarts, NoSign, spot_at}
 use Rattle.oc_grammar.specs.Tables.{prefix, opening}
-use Rattle.oc_grammar.specs.Trees.{expr, prefixed, Leaf, number, character, text, null, truth, falsity}
+use Rattle.oc_tree.specs.Parsed.{expr}
+use Rattle.oc_grammar.specs.Trees.{prefixed, Leaf, number, character, text, null, truth, falsity}
 use Rattle.oc_grammar.specs.Reading.{SameNext, Found, Refused, Leaves, Any, End, ended, Then, then, By, first, at_last, turn}
 use Rattle.oc_grammar.specs.Calls.{One, one, ANamed, Placed, placed}
 use Rattle.oc_grammar.specs.WrittenTypes.{Commas}

@@ -16,7 +16,8 @@ use Rattle.oc_grammar.specs.declared.tables.Prefix.{Prefix}
 use Rattle.oc_grammar.specs.declared.tables.Joint.{Joint}
 use Rattle.oc_grammar.specs.Tokens.{Is, NotNext}
 use Rattle.oc_grammar.specs.Tables.{prefix, operator, assignment, opening}
-use Rattle.oc_grammar.specs.Trees.{expr, prefixed, Leaf}
+use Rattle.oc_tree.specs.Parsed.{expr}
+use Rattle.oc_grammar.specs.Trees.{prefixed, Leaf}
 use Rattle.oc_grammar.specs.Reading.{End, Then, By, Maybe, Loop}
 use Rattle.oc_grammar.specs.Calls.{One, ANamed, Placed}
 use Rattle.oc_grammar.specs.Expressions.{Expression, Before, Arguments, Stops}

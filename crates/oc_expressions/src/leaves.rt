@@ -3,7 +3,8 @@
 ghost use Rattle.std.specs.Prelude.{◌≡◌, MatchOption, IfOk};
 ghost use Rattle.oc_tree.specs.declared.parsed.Expr.{Expr};
 ghost use Rattle.oc_tree.specs.declared.parsed.ExprNode.{ExprNode};
-ghost use Rattle.oc_grammar.specs.Trees.{expr, prefixed as prefixed_node, joined as joined_node, Leaf};
+ghost use Rattle.oc_tree.specs.Parsed.{expr};
+ghost use Rattle.oc_grammar.specs.Trees.{prefixed as prefixed_node, joined as joined_node, Leaf};
 ghost use Rattle.oc_expressions.specs.Parts.{LeafOf};
 
 use oc_grammar::tables::{Joint, Prefix};

@@ -7,7 +7,7 @@ use Rattle.oc_tree.specs.declared.parsed.ForInit.{ForInit}
 use Rattle.oc_tree.specs.declared.parsed.Stmt.{Stmt, fold-roll-Stmt}
 use Rattle.oc_tree.specs.declared.parsed.StmtNode.{StmtNode, StmtNode-F, fold-StmtNode, fold-roll-StmtNode}
 use Rattle.oc_tree.specs.declared.parsed.StmtNode.TheVariants as st
-use Rattle.oc_grammar.specs.Trees.{stmt}
+use Rattle.oc_tree.specs.Parsed.{stmt}
 use Rattle.oc_grammar.specs.Open.{open_node, ends_open}
 
 opens : StmtNode → Bool

@@ -14,7 +14,8 @@ use Rattle.oc_grammar.specs.declared.tables.Prefix.{Prefix}
 use Rattle.oc_grammar.specs.declared.tables.Joint.{Joint}
 use Rattle.oc_grammar.specs.Tokens.{Is, spot_at}
 use Rattle.oc_grammar.specs.Tables.{prefix, operator, assignment, bump, strength}
-use Rattle.oc_grammar.specs.Trees.{expr, prefixed, joined, Leaf}
+use Rattle.oc_tree.specs.Parsed.{expr}
+use Rattle.oc_grammar.specs.Trees.{prefixed, joined, Leaf}
 use Rattle.oc_grammar.specs.WrittenTypes.{TypeNamed}
 
 -- `Rule n tree tokens`: the tokens spell the tree, and n is the level of the outermost rule. 1 is an assignment, 2 a

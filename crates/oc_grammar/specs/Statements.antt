@@ -14,7 +14,7 @@ use Rattle.oc_lexer.specs.declared.token.Keyword.TheVariants as w
 use Rattle.oc_lexer.specs.declared.token.Sign.{Sign as SignType}
 use Rattle.oc_lexer.specs.declared.token.Sign.TheVariants as s
 use Rattle.oc_grammar.specs.Tokens.{Is, NotNext, spot_at}
-use Rattle.oc_grammar.specs.Trees.{stmt, declared}
+use Rattle.oc_tree.specs.Parsed.{stmt, declared}
 use Rattle.oc_grammar.specs.WrittenTypes.{Base, Declr, Commas}
 use Rattle.oc_grammar.specs.Expressions.{Expression, Before}
 use Rattle.oc_grammar.specs.Open.{ends_open}

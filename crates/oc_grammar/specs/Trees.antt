@@ -1,19 +1,14 @@
 -- Trees: nodes of the parsed tree.
-use Rattle.std.specs.Prelude.{◌≡◌, ℕ, List, [], ◌∷◌, Bool, true, false, Option, Some, None}
-use Rattle.oc_values.specs.declared.integers.IntKind.{IntKind}
+use Rattle.std.specs.Prelude.{◌≡◌, ℕ, List, [], ◌∷◌, Bool, true, false}
 use Rattle.oc_values.specs.declared.integers.IntKind.TheVariants.{I32}
 use Rattle.oc_tree.specs.declared.spot.Spot.{Spot}
 use Rattle.oc_tree.specs.declared.literal.Literal.{Literal}
 use Rattle.oc_tree.specs.declared.parsed.BaseName.{BaseName}
 use Rattle.oc_tree.specs.declared.parsed.BaseKind.TheVariants as base
 use Rattle.oc_tree.specs.declared.parsed.TypeName.{TypeName}
-use Rattle.oc_tree.specs.declared.parsed.FieldDef.{FieldDef}
-use Rattle.oc_tree.specs.declared.parsed.Declared.{Declared}
-use Rattle.oc_tree.specs.declared.parsed.Expr.{Expr, roll-Expr}
+use Rattle.oc_tree.specs.declared.parsed.Expr.{Expr}
 use Rattle.oc_tree.specs.declared.parsed.ExprNode.{ExprNode}
 use Rattle.oc_tree.specs.declared.parsed.ExprNode.TheVariants as e
-use Rattle.oc_tree.specs.declared.parsed.Stmt.{Stmt, roll-Stmt}
-use Rattle.oc_tree.specs.declared.parsed.StmtNode.{StmtNode}
 use Rattle.oc_lexer.specs.declared.token.TokenKind.{TokenKind}
 use Rattle.oc_lexer.specs.declared.token.TokenKind.TheVariants.{Keyword, Number, Character, Text}
 use Rattle.oc_lexer.specs.declared.token.Keyword.TheVariants as w
@@ -21,12 +16,6 @@ use Rattle.oc_grammar.specs.declared.tables.Prefix.{Prefix}
 use Rattle.oc_grammar.specs.declared.tables.Prefix.TheVariants as p
 use Rattle.oc_grammar.specs.declared.tables.Joint.{Joint}
 use Rattle.oc_grammar.specs.declared.tables.Joint.TheVariants as j
-
-abbrev pub expr : Spot → ExprNode → Expr
-expr spot node = roll-Expr (record { spot = spot; node = node })
-
-abbrev pub stmt : Spot → StmtNode → Stmt
-stmt spot node = roll-Stmt (record { spot = spot; node = node })
 
 -- an operand after a sign
 abbrev pub prefixed : Prefix → Expr → ExprNode
@@ -47,18 +36,9 @@ pub data Leaf : TokenKind → ExprNode → Type 0 where
   truth : (n : Literal) → n.kind ≡ I32 → n.value ≡ 1 → Leaf (Keyword w.True) (e.Number n)
   falsity : (n : Literal) → n.kind ≡ I32 → n.value ≡ 0 → Leaf (Keyword w.False) (e.Number n)
 
--- a type that begins at the spot, with its marks `frozen` and `obliv`
-abbrev pub int_base : Spot → Bool → Bool → IntKind → BaseName
-int_base spot frozen obliv k = record { spot = spot; frozen = frozen; obliv = obliv; kind = base.Int k }
-
+-- a type that begins at the spot, with its mark `frozen`
 abbrev pub struct_base : Spot → Bool → List ℕ → BaseName
 struct_base spot frozen name = record { spot = spot; frozen = frozen; obliv = false; kind = base.Struct name }
 
 abbrev pub type_name : BaseName → ℕ → TypeName
 type_name b n = record { base = b; stars = n }
-
-abbrev pub field : Spot → List ℕ → BaseName → ℕ → List ℕ → FieldDef
-field spot name b n dims = record { spot = spot; name = name; base = b; stars = n; dims = dims }
-
-abbrev pub declared : FieldDef → Option Expr → Declared
-declared f init = record { field = f; init = init }

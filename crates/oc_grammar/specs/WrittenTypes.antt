@@ -15,7 +15,8 @@ use Rattle.oc_grammar.specs.declared.tables.Width.{Width}
 use Rattle.oc_grammar.specs.declared.tables.Width.TheVariants as width
 use Rattle.oc_grammar.specs.Tokens.{Is, spot_at}
 use Rattle.oc_grammar.specs.Tables.{kind_of}
-use Rattle.oc_grammar.specs.Trees.{int_base, struct_base, type_name, field}
+use Rattle.oc_tree.specs.Parsed.{int_base, field}
+use Rattle.oc_grammar.specs.Trees.{struct_base, type_name}
 
 -- the keyword, or nothing
 pub data Optional (word : Word) : Unit {0} → List Token → Type 0 where

@@ -9,7 +9,7 @@ use Rattle.oc_lexer.specs.declared.token.TokenKind.TheVariants.{Keyword, Sign}
 use Rattle.oc_lexer.specs.declared.token.Keyword.TheVariants as w
 use Rattle.oc_lexer.specs.declared.token.Sign.TheVariants as s
 use Rattle.oc_grammar.specs.Tokens.{Starts, NotNext, spot_at}
-use Rattle.oc_grammar.specs.Trees.{stmt}
+use Rattle.oc_tree.specs.Parsed.{stmt}
 use Rattle.oc_grammar.specs.Reading.{SameNext, Found, Refused, Leaves, Any, End, Then, then, Maybe, stays, goes}
 use Rattle.oc_grammar.specs.Calls.{One, one, Placed, placed}
 use Rattle.oc_grammar.specs.Statements.{Condition, Statement, Block, Closed}

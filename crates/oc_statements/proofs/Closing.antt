@@ -8,7 +8,7 @@ use Rattle.oc_tree.specs.declared.parsed.StmtNode.{StmtNode-F, fold-StmtNode, fo
 use Rattle.oc_tree.specs.declared.parsed.StmtNode.TheVariants as st
 use Rattle.oc_lexer.specs.declared.token.Token.{Token}
 use Rattle.oc_grammar.specs.declared.ParseError.{ParseError}
-use Rattle.oc_grammar.specs.Trees.{stmt}
+use Rattle.oc_tree.specs.Parsed.{stmt}
 use Rattle.oc_grammar.specs.Reading.{Found, Refused, Leaves, Any, then}
 use Rattle.oc_grammar.specs.Calls.{Reads}
 use Rattle.oc_grammar.specs.Statements.{Closed}

@@ -9,7 +9,7 @@ use Rattle.oc_lexer.specs.declared.token.Token.{Token}
 use Rattle.oc_lexer.specs.declared.token.TokenKind.TheVariants.{Name, Sign}
 use Rattle.oc_lexer.specs.declared.token.Sign.TheVariants as s
 use Rattle.oc_grammar.specs.Tokens.{Starts, NotNext}
-use Rattle.oc_grammar.specs.Trees.{stmt, field, declared}
+use Rattle.oc_tree.specs.Parsed.{stmt, field, declared}
 use Rattle.oc_grammar.specs.Reading.{SameNext, Found, Refused, Leaves, Any, End, Then, then, Maybe, stays, goes}
 use Rattle.oc_grammar.specs.Calls.{One}
 use Rattle.oc_grammar.specs.WrittenTypes.{Declr, declr, no_star, star, no_dim, Commas, last, more}

@@ -13,7 +13,7 @@ use Rattle.oc_lexer.specs.declared.token.Sign.TheVariants as s
 use Rattle.oc_grammar.specs.declared.tables.Opening.TheVariants as o
 use Rattle.oc_grammar.specs.Tokens.{Is, spot_at}
 use Rattle.oc_grammar.specs.Tables.{opening}
-use Rattle.oc_grammar.specs.Trees.{stmt}
+use Rattle.oc_tree.specs.Parsed.{stmt}
 use Rattle.oc_grammar.specs.Reading.{ended, Then, then, By, first, Maybe, stays, goes}
 use Rattle.oc_grammar.specs.Calls.{One, one, a_named, placed}
 use Rattle.oc_grammar.specs.Statements.{Declaration, Condition, Statement, Branches, Block, braces, Steps, no_step, a_declaration, a_statement}

@@ -9,7 +9,7 @@ use Rattle.oc_lexer.specs.declared.token.TokenKind.TheVariants.{Name, Number, Ch
 use Rattle.oc_lexer.specs.declared.token.Keyword.TheVariants as w
 use Rattle.oc_lexer.specs.declared.token.Sign.TheVariants as s
 use Rattle.oc_grammar.specs.Tokens.{spot_at}
-use Rattle.oc_grammar.specs.Trees.{stmt}
+use Rattle.oc_tree.specs.Parsed.{stmt}
 use Rattle.oc_grammar.specs.Reading.{SameNext, Found, Refused, Leaves, Any, End, ended, Then, then, By, first}
 use Rattle.oc_grammar.specs.Calls.{One, one, placed}
 use Rattle.oc_grammar.specs.Expressions.{Before}

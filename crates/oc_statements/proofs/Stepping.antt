@@ -11,7 +11,7 @@ use Rattle.oc_lexer.specs.declared.token.Keyword.TheVariants as w
 use Rattle.oc_grammar.specs.declared.tables.Opening.TheVariants as o
 use Rattle.oc_grammar.specs.Tokens.{Is, Starts, NotNext, spot_at}
 use Rattle.oc_grammar.specs.Tables.{opening}
-use Rattle.oc_grammar.specs.Trees.{stmt}
+use Rattle.oc_tree.specs.Parsed.{stmt}
 use Rattle.oc_grammar.specs.Reading.{SameNext, Found, Refused, Leaves, Then, then, By, first}
 use Rattle.oc_grammar.specs.Calls.{One, one}
 use Rattle.oc_grammar.specs.WrittenTypes.{Base}

@@ -16,7 +16,7 @@ use Rattle.oc_lexer.specs.declared.token.Keyword.TheVariants as w
 use Rattle.oc_lexer.specs.declared.token.Sign.TheVariants as s
 use Rattle.oc_grammar.specs.Tokens.{Is, NotNext, spot_at}
 use Rattle.oc_grammar.specs.Tables.{opening}
-use Rattle.oc_grammar.specs.Trees.{stmt, declared}
+use Rattle.oc_tree.specs.Parsed.{stmt, declared}
 use Rattle.oc_grammar.specs.Reading.{End, Then, By, Maybe}
 use Rattle.oc_grammar.specs.Calls.{One, ANamed, Placed}
 use Rattle.oc_grammar.specs.WrittenTypes.{Commas}

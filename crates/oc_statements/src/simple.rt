@@ -6,7 +6,7 @@ ghost use Rattle.oc_grammar.specs.Reading.{Any};
 ghost use Rattle.oc_grammar.specs.Calls.{Reads};
 ghost use Rattle.oc_grammar.specs.Tables.{strength};
 ghost use Rattle.oc_expressions.specs.Parts.{begins};
-ghost use Rattle.oc_grammar.specs.Trees.{stmt};
+ghost use Rattle.oc_tree.specs.Parsed.{stmt};
 ghost use Rattle.oc_grammar.specs.Statements.{Condition, Perhaps, Init};
 ghost use Rattle.oc_statements.specs.Shapes.{Simple as SimpleStatement, header_form, name_form};
 

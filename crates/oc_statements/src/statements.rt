@@ -4,7 +4,7 @@ ghost use Rattle.std.specs.Prelude.{◌≡◌, ◌<◌, ◌≤◌, [], length, I
 ghost use Rattle.oc_grammar.specs.Reading.{Any};
 ghost use Rattle.oc_grammar.specs.Calls.{Reads};
 ghost use Rattle.oc_grammar.specs.Statements.{Statement, Closed, Block};
-ghost use Rattle.oc_grammar.specs.Trees.{stmt};
+ghost use Rattle.oc_tree.specs.Parsed.{stmt};
 ghost use Rattle.oc_statements.specs.Shapes.{if_node, if_after, while_after, for_after, always_after, Run, Step};
 
 use crate::declarations::declare;

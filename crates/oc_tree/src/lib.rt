@@ -3,6 +3,7 @@
 //! The types are plain data. What they mean stands in `specs/`, one subject a file:
 //!
 //! - `Literals`: the numbers that a source writes out.
+//! - `Parsed`: the nodes of a parsed tree.
 //! - `Types`: when two types are equal, when one is read as another, and the frozen form of a type.
 //! - `Layout`: the cells of a type, and the integer and pointer types of these cells in order.
 //! - `Memory`: blocks of cells, and what is read, written, made and ended.
