@@ -175,7 +175,7 @@ fn print(
 {
     match text {
         Some(bytes) => {
-            m.shown.push(ShownItem::Print(Name::from_vec(bytes)))?;
+            m.shown.push(ShownItem::Print(Name::from_vec(bytes)?))?;
             Ok(Value::Nothing)
         }
         None => Err(trap(TrapKind::M5, spot)),

@@ -72,13 +72,13 @@ pub fn dims<'t>(
     Ok((found, rest))
 }
 
-/// A copy of what a type begins with.
-pub fn copied(alloc: Global, base: &BaseName) -> Result<BaseName, NoMemory>
+/// A copy of what a type begins with, which shares its name.
+pub fn copied(base: &BaseName) -> Result<BaseName, NoMemory>
     ensures { IfOk result (λ copy. copy ≡ base.now) }
 {
     let kind = match &base.kind {
         BaseKind::Int(kind) => BaseKind::Int(*kind),
-        BaseKind::Struct(name) => BaseKind::Struct(Name::from_bytes(alloc, name.as_bytes())?),
+        BaseKind::Struct(name) => BaseKind::Struct(name.share()?),
     };
     Ok(BaseName {
         spot: base.spot,
@@ -103,7 +103,7 @@ pub fn declr<'t>(
     let field = FieldDef {
         spot: named.spot,
         name: named.name,
-        base: copied(alloc, base)?,
+        base: copied(base)?,
         stars,
         dims,
     };

@@ -88,5 +88,5 @@ pub fn quoted(alloc: Global, text: &[u8]) -> Result<Option<(Name, usize)>, NoMem
         bytes.push(value)?;
         at += length;
     }
-    Ok(Some((Name::from_vec(bytes), at + 1)))
+    Ok(Some((Name::from_vec(bytes)?, at + 1)))
 }

@@ -3,29 +3,31 @@ use Rattle.std.proofs.Common.{ℕ, ◌≡◌, refl, sym, ap, ◌∙◌, List, Bo
 use Rattle.std.proofs.lemmas.Bool.{false≢true}
 use Rattle.oc_tree.specs.declared.types.CType.{CType, Int, Pointer', Array', Struct, Nothing, Row_of-CType, end_of-CType, more_of-CType}
 use Rattle.std.specs.Prelude.{◌&&◌, ◌||◌, not}
-use Rattle.oc_tree.specs.Types.{alike, same, same_row, number_of_kind, holds_public, holds_public_row, freeze, freeze_row, is_normal, is_normal_row, mark_allowed, fits}
+use Rattle.oc_tree.specs.declared.types.StructType.{StructType}
+use Rattle.oc_tree.specs.Types.{alike, same, same_row, number_of_kind, holds_public, holds_public_row, public_structs, freeze, freeze_row, is_normal, is_normal_row, mark_allowed, fits, IsLeaf}
+use Rattle.oc_tree.specs.Laws.{FrozenLeavesFit}
 
-abbrev both : Bool → Bool → Bool
+abbrev pub both : Bool → Bool → Bool
 both a b = a && b
 
-abbrev either : Bool → Bool → Bool
+abbrev pub either : Bool → Bool → Bool
 either a b = a || b
 
-both_left : (a b : Bool) → both a b ≡ true → a ≡ true
+pub both_left : (a b : Bool) → both a b ≡ true → a ≡ true
 both_left true b e = refl
 both_left false b e = absurd (false≢true e)
 
-both_right : (a b : Bool) → both a b ≡ true → b ≡ true
+pub both_right : (a b : Bool) → both a b ≡ true → b ≡ true
 both_right true b e = e
 both_right false b e = absurd (false≢true e)
 
-alike_is : (a b : Bool) → alike a b ≡ true → a ≡ b
+pub alike_is : (a b : Bool) → alike a b ≡ true → a ≡ b
 alike_is true true e = refl
 alike_is true false e = absurd (false≢true e)
 alike_is false true e = absurd (false≢true e)
 alike_is false false e = refl
 
-alike_itself : (a : Bool) → alike a a ≡ true
+pub alike_itself : (a : Bool) → alike a a ≡ true
 alike_itself true = refl
 alike_itself false = refl
 
@@ -37,7 +39,7 @@ agree : (a b c : Bool) → (c ≡ true → a ≡ b) → both (alike a b) c ≡ c
 agree a b true h = rw (h refl, alike_itself b) refl
 agree a b false h = both_false (alike a b)
 
-number_is : (m n : ℕ) → nat_eq m n ≡ true → m ≡ n
+pub number_is : (m n : ℕ) → nat_eq m n ≡ true → m ≡ n
 number_is m n e = grind arith
 
 mutual
@@ -96,10 +98,30 @@ unmarked false true false false m h = refl
 unmarked false false x true m h = refl
 unmarked false false x false m h = sym (h refl)
 
-pub fits_pointer : (ss : List Bool) (f g : Bool) (u v : Unit {0}) (t : Row_of-CType 1) (s : Row_of-CType 1) → is_normal ss false (Pointer' f u t) ≡ true → is_normal ss false (Pointer' g v s) ≡ true → fits (Pointer' f u t) (Pointer' g v s) ≡ either (same true (Pointer' f u t) (Pointer' g v s)) (same true (Pointer' f u t) (freeze ss (Pointer' g v s)))
+fits_pointer : (ss : List Bool) (f g : Bool) (u v : Unit {0}) (t : Row_of-CType 1) (s : Row_of-CType 1) → is_normal ss false (Pointer' f u t) ≡ true → is_normal ss false (Pointer' g v s) ≡ true → fits (Pointer' f u t) (Pointer' g v s) ≡ either (same true (Pointer' f u t) (Pointer' g v s)) (same true (Pointer' f u t) (freeze ss (Pointer' g v s)))
 fits_pointer ss true g u v t s a b =
     let i = inside_frozen_row ss t s (both_right (holds_public_row ss t) _ a) in
     let h = both_left (holds_public_row ss t) (is_normal_row ss true t) a in
     ap (either (both (alike true g) (same_row true t s))) (sym (rw (i) (agree true (holds_public_row ss s) (same_row false t s) (λ d. sym h ∙ public_same_row ss t s d))))
 fits_pointer ss false g u v t s a b =
     unmarked g (holds_public_row ss s) (same_row true t (freeze_row ss s)) (same_row true t s) (both_left _ (is_normal_row ss g s) b) (λ d. ap (same_row true t) (freeze_hidden_row ss s d))
+
+same_again : (a : Bool) → either a false ≡ either a a
+same_again true = refl
+same_again false = refl
+
+pub frozen_leaves_fit : FrozenLeavesFit
+frozen_leaves_fit structs (Int k o) (Int l p) x y a b = same_again (same true (Int k o) (Int l p))
+frozen_leaves_fit structs (Int k o) (Pointer' g v s) x y a b = refl
+frozen_leaves_fit structs (Pointer' true u t) (Int l p) x y a b = refl
+frozen_leaves_fit structs (Pointer' false u t) (Int l p) x y a b = refl
+frozen_leaves_fit structs (Pointer' f u t) (Pointer' g v s) x y a b = fits_pointer (public_structs structs) f g u v t s a b
+frozen_leaves_fit structs (Int k o) (Array' n u t) x y a b = absurd y
+frozen_leaves_fit structs (Int k o) (Struct n) x y a b = absurd y
+frozen_leaves_fit structs (Int k o) Nothing x y a b = absurd y
+frozen_leaves_fit structs (Pointer' f u t) (Array' n v s) x y a b = absurd y
+frozen_leaves_fit structs (Pointer' f u t) (Struct n) x y a b = absurd y
+frozen_leaves_fit structs (Pointer' f u t) Nothing x y a b = absurd y
+frozen_leaves_fit structs (Array' n u t) leaf x y a b = absurd x
+frozen_leaves_fit structs (Struct n) leaf x y a b = absurd x
+frozen_leaves_fit structs Nothing leaf x y a b = absurd x

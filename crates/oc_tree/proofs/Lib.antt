@@ -1,6 +1,8 @@
 pub mod Joined
 pub mod Lengths
 pub mod Freezing
+pub mod Equal
+pub mod Normal
 pub mod Growing
 pub mod Sample
 pub mod Updates

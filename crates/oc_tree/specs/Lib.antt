@@ -1,4 +1,5 @@
 pub mod Types
+pub mod Laws
 pub mod Layout
 pub mod Memory
 pub mod Literals

@@ -18,9 +18,11 @@ number_of_kind U32 = 6
 number_of_kind I64 = 7
 number_of_kind U64 = 8
 
+-- whether two kinds are the same
 abbrev pub same_kind : IntKind → IntKind → Bool
 same_kind k l = nat_eq (number_of_kind k) (number_of_kind l)
 
+-- whether two marks are the same
 abbrev pub alike : Bool → Bool → Bool
 alike true b = b
 alike false b = not b
@@ -44,11 +46,12 @@ abbrev mutual
   same_row marks (more_of-CType t ts) (more_of-CType s ss) = same marks t s
   same_row marks _ _ = false
 
+-- whether a type is a frozen pointer
 abbrev pub is_frozen_pointer : CType → Bool
 is_frozen_pointer (Pointer' f u t) = f
 is_frozen_pointer _ = false
 
--- whether a cell of the second type is read as the first: both are equal, or the first is the second with every pointer frozen
+-- whether a cell of the second type is read as the first: both are equal, or the first is a frozen pointer and both are equal without marks
 abbrev pub fits : CType → CType → Bool
 fits asked cell = same true asked cell || (is_frozen_pointer asked && same false asked cell)
 
@@ -65,20 +68,22 @@ abbrev mutual
   holds_public_row ss (more_of-CType t ts) = holds_public ss t
   holds_public_row ss end_of-CType = false
 
+-- whether one of these fields holds public data
 abbrev pub some_public : List Bool → List FieldType → Bool
 some_public ss [] = false
 some_public ss (f ∷ fs) = holds_public ss f.ty || some_public ss fs
 
+-- which structs hold public data, where it is known of those before
 abbrev pub public_after : List Bool → List StructType → List Bool
 public_after known [] = known
 public_after known (s ∷ ss) = public_after (known ++ some_public known s.fields ∷ []) ss
 
--- which structs hold public data: each holds only earlier ones by value
+-- which structs of a program hold public data: each holds only earlier ones by value
 abbrev pub public_structs : List StructType → List Bool
 public_structs ss = public_after [] ss
 
 abbrev mutual
-  -- the type with every pointer frozen that leads to a type that holds public data
+  -- the frozen form: the type with exactly those pointers frozen that lead to a type that holds public data
   pub freeze : List Bool → CType → CType
   freeze ss (Int k o) = Int k o
   freeze ss (Pointer' f u t) = Pointer' (holds_public_row ss t) u (freeze_row ss t)
@@ -108,3 +113,35 @@ abbrev mutual
   pub is_normal_row : {m : _} → List Bool → Bool → Row_of-CType m → Bool
   is_normal_row ss inside (more_of-CType t ts) = is_normal ss inside t
   is_normal_row ss inside end_of-CType = true
+
+abbrev mutual
+  -- the type with every pointer frozen
+  pub all_frozen : CType → CType
+  all_frozen (Int k o) = Int k o
+  all_frozen (Pointer' f u t) = Pointer' true u (all_frozen_row t)
+  all_frozen (Array' n u t) = Array' n u (all_frozen_row t)
+  all_frozen (Struct n) = Struct n
+  all_frozen Nothing = Nothing
+
+  pub all_frozen_row : {m : _} → Row_of-CType m → Row_of-CType m
+  all_frozen_row (more_of-CType t ts) = more_of-CType (all_frozen t) ts
+  all_frozen_row end_of-CType = end_of-CType
+
+abbrev mutual
+  -- the normal form of a type, inside a frozen pointer or not: a pointer to a type that holds no public data isn't frozen, and what a frozen pointer leads to has each other pointer frozen
+  pub normal : List Bool → Bool → CType → CType
+  normal ss inside (Int k o) = Int k o
+  normal ss inside (Pointer' f u t) = Pointer' (holds_public_row ss t && (inside || f)) u (normal_row ss (inside || f) t)
+  normal ss inside (Array' n u t) = Array' n u (normal_row ss inside t)
+  normal ss inside (Struct n) = Struct n
+  normal ss inside Nothing = Nothing
+
+  pub normal_row : {m : _} → List Bool → Bool → Row_of-CType m → Row_of-CType m
+  normal_row ss inside (more_of-CType t ts) = more_of-CType (normal ss inside t) ts
+  normal_row ss inside end_of-CType = end_of-CType
+
+-- an integer or pointer type, as a cell is made with
+abbrev pub IsLeaf : CType → Type 0
+IsLeaf (Int k o) = Unit {0}
+IsLeaf (Pointer' f u t) = Unit {0}
+IsLeaf _ = ⊥

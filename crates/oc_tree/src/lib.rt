@@ -5,6 +5,7 @@
 //! - `Literals`: the numbers that a source writes out.
 //! - `Parsed`: the nodes of a parsed tree.
 //! - `Types`: when two types are equal, when one is read as another, and the frozen form of a type.
+//! - `Laws`: what these say of each other.
 //! - `Layout`: the cells of a type, and the integer and pointer types of these cells in order.
 //! - `Memory`: blocks of cells, and what is read, written, made and ended.
 //! - `Joined`: two memories of two contents that answer alike.
@@ -14,6 +15,7 @@
 //! - `Typing`: when a typed tree is well typed, which its type keeps.
 #![tactic(auto)]
 
+pub mod laws;
 pub mod leaves;
 pub mod literal;
 pub mod memory;
@@ -27,6 +29,7 @@ pub mod spot;
 pub mod typed;
 pub mod types;
 
+pub use laws::{cells_are_leaves, frozen_leaves_fit, normal_forms, same_is_equal};
 pub use leaves::{push_leaves, table_of};
 pub use literal::Literal;
 pub use memory::{Address, Block, Cell, CellValue, Leaf};

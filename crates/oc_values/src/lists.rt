@@ -5,6 +5,7 @@ ghost use Rattle.std.specs.Prelude.{◌≡◌, IfOk, IsTrue, ◌↔◌, [], leng
 pub use sqlite_items::{Boxed, Items};
 use std::alloc::{AllocError, AllocFailed, Global};
 use std::marker::Model;
+use std::sync::ArcSlice;
 
 /// Want of memory: the one answer that no clause ties to a cause.
 #[derive(Clone, Copy, Debug, PartialEq, Eq)]
@@ -22,10 +23,10 @@ impl<T: Drop> From<AllocFailed<T>> for NoMemory {
     }
 }
 
-/// The bytes of a name or a text, which contracts see as their list.
+/// The bytes of a name or a text, which contracts see as their list. Names that were shared keep them once.
 #[derive(Debug, Drop)]
 pub struct Name {
-    bytes: Vec<u8>,
+    bytes: ArcSlice<u8>,
 }
 
 impl Model for Name {
@@ -33,7 +34,7 @@ impl Model for Name {
 
     ghost Value = { List ℕ };
 
-    ghost view = { λ name. name.bytes.items };
+    ghost view = { λ name. name.bytes.items.value.items };
 }
 
 impl Name {
@@ -42,15 +43,26 @@ impl Name {
         ensures { IfOk result (λ name. name ≡ bytes.now) }
     {
         Ok(Name {
-            bytes: Vec::from_slice(alloc, bytes)?,
+            bytes: ArcSlice::from_slice(alloc, bytes)?,
         })
     }
 
-    /// The name of these bytes, which takes no memory.
-    pub fn from_vec(bytes: Vec<u8>) -> Name
-        ensures { result ≡ bytes.items }
+    /// The name of these bytes, which are not copied.
+    pub fn from_vec(bytes: Vec<u8>) -> Result<Name, NoMemory>
+        ensures { IfOk result (λ name. name ≡ bytes.items) }
     {
-        Name { bytes }
+        Ok(Name {
+            bytes: ArcSlice::from_vec(bytes)?,
+        })
+    }
+
+    /// The same name again, whose bytes are not copied.
+    pub fn share(&self) -> Result<Name, NoMemory>
+        ensures { IfOk result (λ name. name ≡ self.now) }
+    {
+        Ok(Name {
+            bytes: self.bytes.clone()?,
+        })
     }
 
     pub fn as_bytes(&self) -> &[u8]

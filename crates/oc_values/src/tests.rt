@@ -166,6 +166,6 @@ fn kinds_and_names(rt: HostRuntime) -> Result<(), Fail> {
     }
     let bytes = b"name".to_vec(rt.alloc())?;
     let name = Name::from_bytes(rt.alloc(), bytes.as_slice())?;
-    assert_eq!(rt; name.as_bytes(), Name::from_vec(bytes).as_bytes());
+    assert_eq!(rt; name.as_bytes(), Name::from_vec(bytes).unwrap().as_bytes());
     Ok(())
 }
