@@ -1,10 +1,16 @@
 -- Each law of memory at any two contents, and at integers against operands.
-use Rattle.std.proofs.Common.{ℕ, ◌≡◌, refl, ℤ, pos, List}
+use Rattle.std.proofs.Common.{ℕ, ◌≡◌, refl, ℤ, pos, List, Option}
 use Rattle.oc_values.specs.declared.integers.IntKind.{IntKind}
 use Rattle.oc_tree.specs.declared.memory.Block.{Block}
-use Rattle.oc_tree.specs.Joined.{SameMemory}
-use Rattle.oc_tree.proofs.Joined.{load_same, store_same, offset_same, copy_same, ended_same, free_same, make_copies_same, living_same}
+use Rattle.oc_tree.specs.Joined.{SameOption, nothing, some, SameBlock, lives, gones, SameMemory}
+use Rattle.block_memory.specs.Content.{is_live}
+use Rattle.oc_tree.proofs.Joined.{load_same, store_same, offset_same, copy_same, ended_same, free_same, make_copies_same, living_same, length_same, get_same}
 use Rattle.block_memory.specs.Laws.{AnswerAlike, Operand, known, event, Stands, OperandsAgree}
+
+live_alike : {H K : Type 0} {R : H → K → Type 0} {a : Option (Block H)} {b : Option (Block K)} → SameOption (SameBlock R) a b → is_live a ≡ is_live b
+live_alike nothing = refl
+live_alike (some (lives p)) = refl
+live_alike (some gones) = refl
 
 pub answer_alike : {H K : Type 0} {R : H → K → Type 0} (zero_of : IntKind → H) (nought_of : IntKind → K) → ((k : IntKind) → R (zero_of k) (nought_of k)) → {m : List (Block H)} {n : List (Block K)} → SameMemory R m n → AnswerAlike R zero_of nought_of m n
 answer_alike zero_of nought_of zeros s = record {
@@ -16,6 +22,8 @@ answer_alike zero_of nought_of zeros s = record {
   frees = λ at. free_same s at;
   makes = λ limit allocated leaves count. make_copies_same zero_of nought_of zeros limit allocated s leaves count;
   counts = living_same s;
+  numbers = length_same s;
+  lives = λ block. live_alike (get_same s block);
 }
 
 pub agree : OperandsAgree

@@ -1,10 +1,8 @@
 -- Each cell's value is of its leaf's form, and stays so.
 use Rattle.std.proofs.Common.{ℕ, zero, suc, ◌+◌, ◌≤◌, ◌<◌, ◌≡◌, refl, sym, ap, ◌∙◌, subst, List, [], ◌∷◌, ◌++◌, length, Option, Some, None, slice_get, Result, Ok, Err, Bool, true, false, ℤ, pos, nat_eq, arith}
-use Rattle.std.specs.Prelude.{◌&&◌, ◌||◌}
+use Rattle.std.specs.Prelude.{◌&&◌, ◌||◌, IfOk}
 use Rattle.std.proofs.lemmas.Bool.{false≢true}
 use Rattle.oc_values.specs.declared.integers.IntKind.{IntKind}
-use Rattle.oc_values.specs.declared.integers.IntKind.TheVariants.{Bool as KBool, I8, U8, I16, U16, I32, U32, I64, U64}
-use Rattle.oc_values.specs.Integers.{IsOfKind}
 use Rattle.oc_tree.specs.declared.types.CType.{CType, Int as CInt, Pointer', Array', Struct, Nothing}
 use Rattle.oc_tree.specs.declared.memory.Address.{Address}
 use Rattle.oc_tree.specs.declared.memory.Address.TheVariants.{Null, At}
@@ -15,51 +13,10 @@ use Rattle.oc_tree.specs.declared.memory.Block.{Block}
 use Rattle.oc_tree.specs.declared.memory.Block.TheVariants.{Live, Gone}
 use Rattle.oc_tree.specs.declared.outcome.TrapKind.{TrapKind}
 use Rattle.oc_tree.specs.declared.outcome.TrapKind.TheVariants.{M1, M2, M3, M5}
-use Rattle.oc_tree.specs.Types.{same, same_row, same_kind, number_of_kind, alike, marks_agree, fits, is_frozen_pointer}
-use Rattle.block_memory.specs.Content.{IsLeaf, AreLeaves}
+use Rattle.oc_tree.specs.Types.{same, fits, is_frozen_pointer, IsLeaf}
+use Rattle.oc_tree.proofs.Equal.{same_is, same_back}
+use Rattle.block_memory.specs.Content.{AreLeaves}
 use Rattle.oc_tree.specs.Memory.{then, live, within, only, cell, load, loadable, storable, all_storable, update, written, in_live, put, take_over, copied, next, ended, blank, blanks, HasForm, CellsHaveForm, BlockHasForm, AllHaveForm}
-
-both_left : (a b : Bool) → (a && b) ≡ true → a ≡ true
-both_left true b e = refl
-both_left false b e = absurd (false≢true e)
-
-both_right : (a b : Bool) → (a && b) ≡ true → b ≡ true
-both_right true b e = e
-both_right false b e = absurd (false≢true e)
-
-alike_is : (a b : Bool) → alike a b ≡ true → a ≡ b
-alike_is true true e = refl
-alike_is true false e = absurd (false≢true e)
-alike_is false true e = absurd (false≢true e)
-alike_is false false e = refl
-
-number_is : (m n : ℕ) → nat_eq m n ≡ true → m ≡ n
-number_is m n e = grind arith
-
-abbrev kind_of_number : ℕ → IntKind
-kind_of_number zero = KBool
-kind_of_number (suc zero) = I8
-kind_of_number (suc (suc zero)) = U8
-kind_of_number (suc (suc (suc zero))) = I16
-kind_of_number (suc (suc (suc (suc zero)))) = U16
-kind_of_number (suc (suc (suc (suc (suc zero))))) = I32
-kind_of_number (suc (suc (suc (suc (suc (suc zero)))))) = U32
-kind_of_number (suc (suc (suc (suc (suc (suc (suc zero))))))) = I64
-kind_of_number _ = U64
-
-kind_again : (k : IntKind) → kind_of_number (number_of_kind k) ≡ k
-kind_again KBool = refl
-kind_again I8 = refl
-kind_again U8 = refl
-kind_again I16 = refl
-kind_again U16 = refl
-kind_again I32 = refl
-kind_again U32 = refl
-kind_again I64 = refl
-kind_again U64 = refl
-
-kind_is : (k l : IntKind) → same_kind k l ≡ true → k ≡ l
-kind_is k l e = sym (kind_again k) ∙ ap kind_of_number (number_is (number_of_kind k) (number_of_kind l) e) ∙ kind_again l
 
 abbrev IsAnswer : {A : Type 0} → Result A TrapKind → Type 0
 IsAnswer (Ok a) = Unit {0}
@@ -98,42 +55,21 @@ only_alike false x y k = refl
 module _ {H : Type 0} where
   -- what is of the form of one leaf is of the form of an equal one
   form_same : (l m : CType) → same true l m ≡ true → (v : CellValue H) → HasForm l v → HasForm m v
-  form_same (CInt k o) (CInt j p) e v h =
-      subst (λ i. HasForm (CInt i p) v) (kind_is k j (both_left (same_kind k j) (alike o p) e)) (subst (λ q. HasForm (CInt k q) v) (alike_is o p (both_right (same_kind k j) (alike o p) e)) h)
-  form_same (Pointer' f u t) (Pointer' g w s) e (Pointer at) h = tt
-  form_same (Pointer' f u t) (Pointer' g w s) e (Int n) h = h
-  form_same (Pointer' f u t) (Pointer' g w s) e (Hidden n) h = h
-  form_same (CInt k o) (Pointer' g w s) e v h = absurd (false≢true e)
-  form_same (CInt k o) (Array' g w s) e v h = absurd (false≢true e)
-  form_same (CInt k o) (Struct n) e v h = absurd (false≢true e)
-  form_same (CInt k o) Nothing e v h = absurd (false≢true e)
-  form_same (Pointer' f u t) (CInt k o) e v h = absurd (false≢true e)
-  form_same (Pointer' f u t) (Array' g w s) e v h = absurd (false≢true e)
-  form_same (Pointer' f u t) (Struct n) e v h = absurd (false≢true e)
-  form_same (Pointer' f u t) Nothing e v h = absurd (false≢true e)
-  form_same (Array' n u t) m e v h = absurd h
-  form_same (Struct n) m e v h = absurd h
-  form_same Nothing m e v h = absurd h
+  form_same l m e v h = subst (λ k. HasForm k v) (same_is l m e) h
 
   -- what a cell holds is of the form of each leaf that it is read with
   form_fits : (l m : CType) → fits l m ≡ true → (v : CellValue H) → HasForm m v → HasForm l v
-  form_fits (CInt k o) (CInt j p) e v h =
-      let s = or_none (same true (CInt k o) (CInt j p)) e in
-      subst (λ i. HasForm (CInt i o) v) (sym (kind_is k j (both_left (same_kind k j) (alike o p) s))) (subst (λ q. HasForm (CInt j q) v) (sym (alike_is o p (both_right (same_kind k j) (alike o p) s))) h)
   form_fits (Pointer' f u t) (Pointer' g w s) e (Pointer at) h = tt
   form_fits (Pointer' f u t) (Pointer' g w s) e (Int n) h = h
   form_fits (Pointer' f u t) (Pointer' g w s) e (Hidden n) h = h
-  form_fits (CInt k o) (Pointer' g w s) e v h = absurd (false≢true e)
   form_fits (Pointer' f u t) (CInt k o) e v h = absurd (and_none f e)
-  form_fits (Array' n u t) (CInt j p) e v h = absurd (false≢true e)
-  form_fits (Struct n) (CInt j p) e v h = absurd (false≢true e)
-  form_fits Nothing (CInt j p) e v h = absurd (false≢true e)
-  form_fits (Array' n u t) (Pointer' g w s) e v h = absurd (false≢true e)
-  form_fits (Struct n) (Pointer' g w s) e v h = absurd (false≢true e)
-  form_fits Nothing (Pointer' g w s) e v h = absurd (false≢true e)
-  form_fits l (Array' n u t) e v h = absurd h
-  form_fits l (Struct n) e v h = absurd h
-  form_fits l Nothing e v h = absurd h
+  form_fits (Pointer' f u t) (Array' n w s) e v h = absurd h
+  form_fits (Pointer' f u t) (Struct n) e v h = absurd h
+  form_fits (Pointer' f u t) Nothing e v h = absurd h
+  form_fits (CInt k o) m e v h = form_same m (CInt k o) (same_back (CInt k o) m (or_none (same true (CInt k o) m) e)) v h
+  form_fits (Array' n u t) m e v h = form_same m (Array' n u t) (same_back (Array' n u t) m (or_none (same true (Array' n u t) m) e)) v h
+  form_fits (Struct n) m e v h = form_same m (Struct n) (same_back (Struct n) m (or_none (same true (Struct n) m) e)) v h
+  form_fits Nothing m e v h = form_same m Nothing (same_back Nothing m (or_none (same true Nothing m) e)) v h
 
   abbrev CellForm : Option (Cell H) → Type 0
   CellForm (Some c) = HasForm c.leaf c.value
@@ -251,6 +187,18 @@ module _ {H : Type 0} where
   pub form_copied : (ls : List CType) (bs : List (Block H)) (to from : Address) → loadable bs from ls ≡ Ok (tt {0}) → all_storable bs to ls ≡ Ok (tt {0}) → AllHaveForm bs → AllHaveForm (copied (length ls) bs to from)
   form_copied [] bs to from e f h = h
   form_copied (l ∷ ls) bs to from e f h = form_taken l ls bs to from (cell bs from) (cell_form bs from h) e (then_ok (storable bs to l) (all_storable bs (next to) ls) f) h (λ cs i j k. form_copied ls cs (next to) (next from) i j k)
+
+  only_form : (leaf : CType) (b : Bool) (v : CellValue H) → (b ≡ true → HasForm leaf v) → IfOk (only b v) (λ w. HasForm leaf w)
+  only_form leaf true v h = h refl
+  only_form leaf false v h = tt
+
+  read_form : (leaf : CType) (r : Result (Cell H) TrapKind) → AnswerForm r → IfOk (then r (λ c. only (fits leaf c.leaf) c.value)) (λ w. HasForm leaf w)
+  read_form leaf (Ok c) a = only_form leaf (fits leaf c.leaf) c.value (λ e. form_fits leaf c.leaf e c.value a)
+  read_form leaf (Err t) a = tt
+
+  -- what is read is of the form of the leaf that it is read with
+  pub form_loaded : (bs : List (Block H)) (at : Address) (leaf : CType) → AllHaveForm bs → IfOk (load bs at leaf) (λ w. HasForm leaf w)
+  form_loaded bs at leaf h = read_form leaf (cell bs at) (cell_form bs at h)
 
   pub form_ended : (bs : List (Block H)) (b : ℕ) → AllHaveForm bs → AllHaveForm (ended bs b)
   form_ended [] b h = tt

@@ -1,11 +1,13 @@
 -- What the blocks of a run are to contracts, and what the calls that change them answer.
 use Rattle.std.specs.Prelude.{◌≡◌, ◌≤◌, ◌<◌, nat_le, Bool, ◌&&◌, ℕ, ◌+◌, List, [], ◌∷◌, length, slice_get, Option, Some, None, Result, Ok, Err, true, false}
-use Rattle.oc_tree.specs.declared.types.CType.{CType, Int, Pointer'}
+use Rattle.oc_tree.specs.declared.types.CType.{CType}
 use Rattle.oc_tree.specs.declared.memory.Address.{Address}
 use Rattle.oc_tree.specs.declared.memory.Address.TheVariants.{Null, At}
 use Rattle.oc_tree.specs.declared.memory.Block.{Block}
 use Rattle.oc_tree.specs.declared.memory.Block.TheVariants.{Live, Gone}
 use Rattle.oc_tree.specs.declared.outcome.TrapKind.{TrapKind}
+use Rattle.oc_tree.specs.Types.{IsLeaf}
+use Rattle.oc_tree.specs.Memory.{living, AllHaveForm}
 use Rattle.block_memory.specs.declared.blocks.MakeRefusal.{MakeRefusal}
 use Rattle.block_memory.specs.declared.blocks.MakeRefusal.TheVariants.{Trap, NoMemory}
 
@@ -32,14 +34,15 @@ Counts leaves count = (leaves ≤ 65536 → count ≡ leaves) × (65536 < leaves
 abbrev pub FindsLeaf : List CType → ℕ → Option CType → Type 0
 FindsLeaf leaves number found = length leaves ≤ 65536 → found ≡ slice_get leaves number
 
+-- whether a block is there and live
 abbrev pub is_live : {H : Type 0} → Option (Block H) → Bool
 is_live (Some (Live allocated cells)) = true
 is_live _ = false
 
--- the blocks that are answered stand, or the memory is as it was at a trap
-abbrev pub Follows : {H : Type 0} → Result (List (Block H)) TrapKind → Result (Unit {0}) TrapKind → Memory H → Memory H → Type 0
-Follows r (Ok u) old new = (r ≡ Ok new.blocks) × (new ≡ record old { blocks = new.blocks })
-Follows r (Err kind) old new = (r ≡ Err kind) × (new ≡ old)
+-- the blocks of the answer stand now, or the memory is as it was at a trap
+abbrev pub Changes : {H : Type 0} → Result (List (Block H)) TrapKind → Result (Unit {0}) TrapKind → Memory H → Memory H → Type 0
+Changes r (Ok u) old new = (r ≡ Ok new.blocks) × (new ≡ record old { blocks = new.blocks })
+Changes r (Err kind) old new = (r ≡ Err kind) × (new ≡ old)
 
 -- the same of a new block, whose number is the number of blocks before it; want of memory leaves all as it was
 abbrev pub Makes : {H : Type 0} → Result (List (Block H)) TrapKind → Result ℕ MakeRefusal → Memory H → Memory H → Type 0
@@ -47,16 +50,17 @@ Makes r (Ok number) old new = (number ≡ length old.blocks) × (r ≡ Ok new.bl
 Makes r (Err (Trap kind)) old new = (r ≡ Err kind) × (new ≡ old)
 Makes r (Err NoMemory) old new = new ≡ old
 
--- an integer or pointer type, as a cell is made with
-abbrev pub IsLeaf : CType → Type 0
-IsLeaf (Int k o) = Unit {0}
-IsLeaf (Pointer' f u t) = Unit {0}
-IsLeaf _ = ⊥
-
+-- each of these is an integer or pointer type
 abbrev pub AreLeaves : List CType → Type 0
 AreLeaves [] = Unit {0}
 AreLeaves (l ∷ ls) = IsLeaf l × AreLeaves ls
 
+-- the same of the leaves of each struct
 abbrev pub AllAreLeaves : List (List CType) → Type 0
 AllAreLeaves [] = Unit {0}
 AllAreLeaves (ls ∷ lss) = AreLeaves ls × AllAreLeaves lss
+
+-- what every memory keeps: the live cells are within the limit, and each value is of its leaf's form
+pub record IsKept {H : Type 0} (m : Memory H) : Type 0 where
+  pub within_limit : living m.blocks ≤ m.limit
+  pub forms : AllHaveForm m.blocks

@@ -3,7 +3,7 @@
 ghost use Rattle.std.specs.Prelude.{◌≡◌, ◌+◌, ◌≤◌, ◌^◌, pos, ◌+ℤ◌, ◌*ℤ◌, nat_le, nat_lt, ◌&&◌, ◌<◌, ◌*◌, ◌++◌, max, length, slice_get, [], IfOk, OnOk, IsTrue};
 ghost use Rattle.oc_tree.specs.Layout.{leaves, struct_leaves, repeated};
 ghost use Rattle.oc_tree.specs.Memory.{load, store, storable, copy, offset, placed, ended, free, living, make_copies, blanks, HasForm};
-ghost use Rattle.block_memory.specs.Content.{Memory, has_size, is_live, Follows, Makes};
+ghost use Rattle.block_memory.specs.Content.{Memory, has_size, is_live, Changes, Makes, IsKept};
 
 use crate::cells::{find_cell, put_cell, weigh};
 use crate::copying::{check_loads, check_stores, copy_all};
@@ -76,6 +76,14 @@ impl<'t, C: HiddenCell + Drop> Blocks<'t, C> {
         })
     }
 
+    /// What is so of every memory, however it came to be: the live cells are within the limit, and each value is of
+    /// its leaf's form. Does nothing.
+    pub fn is_kept(&self)
+        ensures { IsKept self.now }
+    {
+        let _ = &self.limit;
+    }
+
     /// Whether a type has 1 to 65,536 cells, as each block and each copy needs. Takes no memory.
     pub fn has_size(&self, ty: &CType) -> bool
         ensures { result ≡ has_size (leaves self.now.structs ty.now) }
@@ -141,7 +149,7 @@ impl<'t, C: HiddenCell + Drop> Blocks<'t, C> {
 
     /// Ends the allocated block that starts at an address. Nothing is done at null. Takes no memory.
     pub fn free_block(&mut self, at: Address) -> Result<(), TrapKind>
-        ensures { Follows (free self.old.blocks at) result self.old self.new }
+        ensures { Changes (free self.old.blocks at) result self.old self.new }
     {
         let Address::At { block, offset } = at else {
             return Ok(());
@@ -158,9 +166,10 @@ impl<'t, C: HiddenCell + Drop> Blocks<'t, C> {
         Ok(())
     }
 
-    /// The value of the cell at an address, read with this leaf. Takes no memory.
+    /// The value of the cell at an address, read with this leaf and of its form. Takes no memory.
     pub fn load(&self, at: Address, leaf: &CType) -> Result<CellValue<C>, TrapKind>
-        ensures { result ≡ load self.now.blocks at leaf.now }
+        ensures value { result ≡ load self.now.blocks at leaf.now }
+        ensures form { IfOk result (λ value. HasForm leaf.now value) }
     {
         let cell = find_cell(&self.blocks, at, 0)?;
         if !fits_type(leaf, cell.leaf.get()) {
@@ -172,7 +181,7 @@ impl<'t, C: HiddenCell + Drop> Blocks<'t, C> {
     /// Writes the cell at an address with this leaf. Takes no memory.
     pub fn store(&mut self, at: Address, leaf: &CType, value: CellValue<C>) -> Result<(), TrapKind>
         requires { HasForm leaf.now value }
-        ensures { Follows (store self.old.blocks at leaf.now value) result self.old self.new }
+        ensures { Changes (store self.old.blocks at leaf.now value) result self.old self.new }
     {
         let cell = find_cell(&self.blocks, at, 0)?;
         if !same_type(true, leaf, cell.leaf.get()) {
@@ -186,7 +195,7 @@ impl<'t, C: HiddenCell + Drop> Blocks<'t, C> {
     /// written, after all were checked. Takes no memory.
     pub fn copy_cells(&mut self, to: Address, from: Address, ty: &CType) -> Result<(), TrapKind>
         requires { IsTrue (has_size (leaves self.old.structs ty.now)) }
-        ensures { Follows (copy self.old.blocks to from (leaves self.old.structs ty.now)) result self.old self.new }
+        ensures { Changes (copy self.old.blocks to from (leaves self.old.structs ty.now)) result self.old self.new }
     {
         check_loads(&self.blocks, from, &self.structs, ty)?;
         check_stores(&self.blocks, to, &self.structs, ty)?;

@@ -7,15 +7,15 @@
 #![tactic(auto)]
 
 pub mod blocks;
-pub mod cells;
-pub mod copying;
+mod cells;
+mod copying;
 pub mod hidden;
 pub mod laws;
-pub mod layout;
+mod layout;
 
 pub use blocks::{Blocks, MakeRefusal};
 pub use hidden::HiddenCell;
-pub use laws::{cells_are_leaves, frozen_leaves_fit, operands_agree};
+pub use laws::operands_agree;
 pub use oc_tree::{Address, CType, CellValue, StructType, TrapKind};
 
 #[cfg(test)]

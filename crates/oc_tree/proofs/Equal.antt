@@ -1,7 +1,6 @@
 -- Types that are found the same are equal.
-use Rattle.std.proofs.Common.{ℕ, zero, suc, ◌≡◌, refl, ap, Bool, true, false, nat_eq, arith, subst}
+use Rattle.std.proofs.Common.{ℕ, zero, suc, ◌≡◌, refl, ap, true, nat_eq, arith, subst}
 use Rattle.std.proofs.lemmas.Bool.{false≢true}
-use Rattle.std.specs.Prelude.{◌&&◌}
 use Rattle.oc_values.specs.declared.integers.IntKind.{IntKind}
 use Rattle.oc_values.specs.declared.integers.IntKind.TheVariants.{Bool as KBool, I8, U8, I16, U16, I32, U32, I64, U64}
 use Rattle.oc_tree.specs.declared.types.CType.{CType, Int, Pointer', Array', Struct, Nothing, Row_of-CType, end_of-CType, more_of-CType}
@@ -32,11 +31,11 @@ kind_back U32 = refl
 kind_back I64 = refl
 kind_back U64 = refl
 
-kind_is : (k l : IntKind) → same_kind k l ≡ true → k ≡ l
+pub kind_is : (k l : IntKind) → same_kind k l ≡ true → k ≡ l
 kind_is k l e = subst (λ m. m ≡ l) (kind_back k) (subst (λ m. kind_of (number_of_kind k) ≡ m) (kind_back l) (ap kind_of (number_is (number_of_kind k) (number_of_kind l) e)))
 
 mutual
-  same_is : (a b : CType) → same true a b ≡ true → a ≡ b
+  pub same_is : (a b : CType) → same true a b ≡ true → a ≡ b
   same_is (Int k o) (Int l p) e = rw (kind_is k l (both_left (same_kind k l) (alike o p) e), alike_is o p (both_right (same_kind k l) (alike o p) e)) refl
   same_is (Pointer' f u t) (Pointer' g v s) e = rw (alike_is f g (both_left (alike f g) (same_row true t s) e), same_row_is t s (both_right (alike f g) (same_row true t s) e)) refl
   same_is (Array' n u t) (Array' m v s) e = rw (number_is n m (both_left (nat_eq n m) (same_row true t s) e), same_row_is t s (both_right (nat_eq n m) (same_row true t s) e)) refl
@@ -63,3 +62,7 @@ mutual
 
 pub same_is_equal : (a b : CType) → SameIsEqual a b
 same_is_equal a b = record { equal = same_is a b; itself = λ e. subst (λ c. same true a c ≡ true) e (same_itself a) }
+
+-- the same the other way round
+pub same_back : (a b : CType) → same true a b ≡ true → same true b a ≡ true
+same_back a b e = subst (λ c. same true c a ≡ true) (same_is a b e) (same_itself a)

@@ -3,8 +3,7 @@ use Rattle.std.proofs.Common.{ℕ, ◌≡◌, refl, sym, ap, ◌∙◌, List, Bo
 use Rattle.std.proofs.lemmas.Bool.{false≢true}
 use Rattle.oc_tree.specs.declared.types.CType.{CType, Int, Pointer', Array', Struct, Nothing, Row_of-CType, end_of-CType, more_of-CType}
 use Rattle.std.specs.Prelude.{◌&&◌, ◌||◌, not}
-use Rattle.oc_tree.specs.declared.types.StructType.{StructType}
-use Rattle.oc_tree.specs.Types.{alike, same, same_row, number_of_kind, holds_public, holds_public_row, public_structs, freeze, freeze_row, is_normal, is_normal_row, mark_allowed, fits, IsLeaf}
+use Rattle.oc_tree.specs.Types.{alike, same, same_row, number_of_kind, holds_public, holds_public_row, public_structs, freeze, freeze_row, is_normal, is_normal_row, mark_allowed, fits}
 use Rattle.oc_tree.specs.Laws.{FrozenLeavesFit}
 
 abbrev pub both : Bool → Bool → Bool

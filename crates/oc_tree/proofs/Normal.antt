@@ -1,7 +1,7 @@
 -- The normal form of a type, and its frozen form.
 use Rattle.std.proofs.Common.{◌≡◌, refl, sym, ap, ◌∙◌, List, Bool, true, false}
 use Rattle.std.proofs.lemmas.Bool.{false≢true}
-use Rattle.std.specs.Prelude.{◌&&◌, ◌||◌}
+use Rattle.std.specs.Prelude.{◌||◌}
 use Rattle.oc_tree.specs.declared.types.CType.{CType, Int, Pointer', Array', Struct, Nothing, Row_of-CType, end_of-CType, more_of-CType}
 use Rattle.oc_tree.specs.declared.types.StructType.{StructType}
 use Rattle.oc_tree.specs.Types.{holds_public, holds_public_row, public_structs, freeze, freeze_row, is_normal, is_normal_row, mark_allowed, normal, normal_row, all_frozen, all_frozen_row}

@@ -1,5 +1,5 @@
 -- Laws of types.
-use Rattle.std.specs.Prelude.{◌≡◌, ℕ, Bool, true, false, ◌||◌, List, length}
+use Rattle.std.specs.Prelude.{◌≡◌, Bool, true, false, ◌||◌, List, length}
 use Rattle.oc_tree.specs.declared.types.CType.{CType}
 use Rattle.oc_tree.specs.declared.types.StructType.{StructType}
 use Rattle.oc_tree.specs.Types.{same, fits, freeze, is_normal, normal, all_frozen, public_structs, IsLeaf}

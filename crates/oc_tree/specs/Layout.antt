@@ -17,10 +17,12 @@ abbrev mutual
   cells_row ss (more_of-CType t ts) = cells ss t
   cells_row ss end_of-CType = 0
 
+-- the cells of these fields together
 abbrev pub field_cells : List ℕ → List FieldType → ℕ
 field_cells ss [] = 0
 field_cells ss (f ∷ fs) = cells ss f.ty + field_cells ss fs
 
+-- the cells of each struct, where those of the first ones are known
 abbrev pub cells_after : List ℕ → List StructType → List ℕ
 cells_after known [] = known
 cells_after known (s ∷ ss) = cells_after (known ++ field_cells known s.fields ∷ []) ss
@@ -33,10 +35,12 @@ struct_cells ss = cells_after [] ss
 abbrev pub cells_in : List StructType → CType → ℕ
 cells_in structs t = cells (struct_cells structs) t
 
+-- a list so many times after itself
 abbrev pub repeated : {A : Type 0} → ℕ → List A → List A
 repeated zero xs = []
 repeated (suc n) xs = repeated n xs ++ xs
 
+-- the leaves of a struct that is there
 abbrev pub or_none : Option (List CType) → List CType
 or_none (Some ls) = ls
 or_none None = []
@@ -54,10 +58,12 @@ abbrev mutual
   leaves_row ss (more_of-CType t ts) = leaves ss t
   leaves_row ss end_of-CType = []
 
+-- the leaves of these fields in order
 abbrev pub field_leaves : List (List CType) → List FieldType → List CType
 field_leaves ss [] = []
 field_leaves ss (f ∷ fs) = leaves ss f.ty ++ field_leaves ss fs
 
+-- the leaves of each struct, where those of the first ones are known
 abbrev pub leaves_after : List (List CType) → List StructType → List (List CType)
 leaves_after known [] = known
 leaves_after known (s ∷ ss) = leaves_after (known ++ field_leaves known s.fields ∷ []) ss

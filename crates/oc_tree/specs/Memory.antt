@@ -1,5 +1,5 @@
 -- Block memory over any hidden content: what is read, written, made and ended, and the traps.
-use Rattle.std.specs.Prelude.{◌≡◌, ℕ, zero, suc, ◌+◌, ◌^◌, nat_le, nat_lt, ℤ, pos, negsuc, ◌+ℤ◌, ◌*ℤ◌, List, [], ◌∷◌, ◌++◌, length, Option, Some, None, Result, Ok, Err, slice_get, Bool, true, false, ◌&&◌}
+use Rattle.std.specs.Prelude.{ℕ, zero, suc, ◌+◌, ◌^◌, nat_le, nat_lt, ℤ, pos, negsuc, ◌+ℤ◌, ◌*ℤ◌, List, [], ◌∷◌, ◌++◌, length, Option, Some, None, Result, Ok, Err, slice_get, Bool, true, false, ◌&&◌}
 use Rattle.oc_values.specs.declared.integers.IntKind.{IntKind}
 use Rattle.oc_tree.specs.declared.types.CType.{CType, Int as CInt}
 use Rattle.oc_tree.specs.declared.memory.Address.{Address}
@@ -27,10 +27,12 @@ live (Some (Live allocated cells)) = Ok cells
 live (Some Gone) = Err M2
 live None = Err M2
 
+-- a cell that is there
 abbrev pub within : {H : Type 0} → Option (Cell H) → Result (Cell H) TrapKind
 within (Some c) = Ok c
 within None = Err M1
 
+-- an answer, where this holds of the leaf
 abbrev pub only : {A : Type 0} → Bool → A → Result A TrapKind
 only true a = Ok a
 only false a = Err M5
@@ -50,9 +52,11 @@ update f [] i = []
 update f (x ∷ xs) zero = f x ∷ xs
 update f (x ∷ xs) (suc i) = x ∷ update f xs i
 
+-- the cell with this value
 abbrev pub written : {H : Type 0} → CellValue H → Cell H → Cell H
 written v c = record c { value = v }
 
+-- a live block with its cells changed
 abbrev pub in_live : {H : Type 0} → (List (Cell H) → List (Cell H)) → Block H → Block H
 in_live f (Live allocated cells) = Live allocated (f cells)
 in_live f Gone = Gone
@@ -66,9 +70,11 @@ put blocks (At b i) v = update (in_live (λ cells. update (written v) cells i)) 
 abbrev pub storable : {H : Type 0} → List (Block H) → Address → CType → Result (Unit {0}) TrapKind
 storable blocks at leaf = then (cell blocks at) (λ c. only (same true leaf c.leaf) tt)
 
+-- the blocks after a value is written with this leaf
 abbrev pub store : {H : Type 0} → List (Block H) → Address → CType → CellValue H → Result (List (Block H)) TrapKind
 store blocks at leaf v = then (storable blocks at leaf) (λ _. Ok (put blocks at v))
 
+-- this place of a block, or none
 abbrev pub landed : Bool → ℕ → ℕ → Result Address TrapKind
 landed true b n = Ok (At b n)
 landed false b n = Err M1
@@ -83,6 +89,7 @@ abbrev pub offset : {H : Type 0} → List (Block H) → Address → ℤ → ℕ 
 offset blocks Null amount size = Err M3
 offset blocks (At b i) amount size = then (live (slice_get blocks b)) (λ cells. placed b (length cells) (pos i +ℤ amount *ℤ pos size))
 
+-- the address of the cell after
 abbrev pub next : Address → Address
 next Null = Null
 next (At b i) = At b (i + 1)
@@ -97,6 +104,7 @@ abbrev pub all_storable : {H : Type 0} → List (Block H) → Address → List C
 all_storable blocks at [] = Ok tt
 all_storable blocks at (l ∷ ls) = then (storable blocks at l) (λ _. all_storable blocks (next at) ls)
 
+-- the blocks with a cell's value at the address
 abbrev pub take_over : {H : Type 0} → List (Block H) → Address → Result (Cell H) TrapKind → List (Block H)
 take_over blocks to (Ok c) = put blocks to c.value
 take_over blocks to (Err t) = blocks
@@ -138,11 +146,6 @@ abbrev pub free : {H : Type 0} → List (Block H) → Address → Result (List (
 free blocks Null = Ok blocks
 free blocks (At b i) = then (freeable (slice_get blocks b) i) (λ _. Ok (ended blocks b))
 
--- what a call answers that changes the blocks, and leaves them as they were at a trap
-abbrev pub Changes : {H : Type 0} → Result (List (Block H)) TrapKind → Result (Unit {0}) TrapKind → List (Block H) → List (Block H) → Type 0
-Changes r (Ok u) old new = r ≡ Ok new
-Changes r (Err t) old new = (r ≡ Err t) × (new ≡ old)
-
 -- a value of the form of its leaf: of the kind where it is public, and hidden where the leaf is
 abbrev pub HasForm : {H : Type 0} → CType → CellValue H → Type 0
 HasForm (CInt k false) (Int n) = IsOfKind k n
@@ -150,15 +153,17 @@ HasForm (CInt k true) (Hidden h) = Unit {0}
 HasForm (CPointer' f u t) (Pointer at) = Unit {0}
 HasForm _ _ = ⊥
 
+-- each of these cells' values is of its leaf's form
 abbrev pub CellsHaveForm : {H : Type 0} → List (Cell H) → Type 0
 CellsHaveForm [] = Unit {0}
 CellsHaveForm (c ∷ cs) = HasForm c.leaf c.value × CellsHaveForm cs
 
+-- the same of a block, of which a gone one has no cells
 abbrev pub BlockHasForm : {H : Type 0} → Block H → Type 0
 BlockHasForm (Live allocated cells) = CellsHaveForm cells
 BlockHasForm Gone = Unit {0}
 
--- each cell's value is of its leaf's form
+-- the same of all blocks
 abbrev pub AllHaveForm : {H : Type 0} → List (Block H) → Type 0
 AllHaveForm [] = Unit {0}
 AllHaveForm (b ∷ bs) = BlockHasForm b × AllHaveForm bs
@@ -170,10 +175,12 @@ module _ {H : Type 0} (zero_of : IntKind → H) where
   blank (CInt k false) = Int (pos 0)
   blank _ = Pointer Null
 
+  -- new cells of these leaves
   abbrev pub blanks : List CType → List (Cell H)
   blanks [] = []
   blanks (l ∷ ls) = record { leaf = l; value = blank l } ∷ blanks ls
 
+  -- the blocks with one more at their end, where there is room
   abbrev pub joined : Bool → List (Block H) → Block H → Result (List (Block H)) TrapKind
   joined true blocks b = Ok (blocks ++ b ∷ [])
   joined false blocks b = Err M4

@@ -1,4 +1,4 @@
-//! The typed tree of a program, what a run holds, and what a program means.
+//! The parsed and the typed tree of a program, what a run holds, and what a program means.
 //!
 //! The types are plain data. What they mean stands in `specs/`, one subject a file:
 //!

@@ -9,6 +9,7 @@ use std::marker::Model;
 /// Where a cell is.
 #[derive(Clone, Copy, Debug, PartialEq, Eq)]
 pub enum Address {
+    /// No cell.
     Null,
     /// The cell at an offset, from 0, of a block of this number.
     At { block: u64, offset: u32 },
@@ -17,8 +18,11 @@ pub enum Address {
 /// What a cell holds. `C` is what a hidden integer is to whoever keeps the blocks.
 #[derive(Clone, Copy, Debug)]
 pub enum CellValue<C> {
+    /// A public integer.
     Int(i128),
+    /// A pointer.
     Pointer(Address),
+    /// A hidden integer.
     Hidden(C),
 }
 
@@ -41,12 +45,14 @@ impl<'t> Model for Leaf<'t> {
 }
 
 impl<'t> Leaf<'t> {
+    /// The leaf of this type, which is lent.
     pub fn new(ty: &'t CType) -> Leaf<'t>
         ensures { result ≡ ty.now }
     {
         Leaf { ty }
     }
 
+    /// The type.
     pub fn get(&self) -> &'t CType
         ensures { result.now ≡ self.now }
     {
@@ -54,19 +60,23 @@ impl<'t> Leaf<'t> {
     }
 }
 
-/// A cell: the integer or pointer type that it was made with, and its value.
+/// A cell.
 #[derive(Drop)]
 pub struct Cell<'t, C> {
+    /// The integer or pointer type that it was made with.
     pub leaf: Leaf<'t>,
+    /// What it holds, of that type's form.
     pub value: CellValue<C>,
 }
 
-/// A block of cells. A gone block has none.
+/// A block of cells.
 #[derive(Drop)]
 pub enum Block<'t, C> {
+    /// Its cells are there. `allocated` tells a block that the program asked for from that of a variable.
     Live {
         allocated: bool,
         cells: Row<Cell<'t, C>>,
     },
+    /// It ended or was freed.
     Gone,
 }

@@ -27,6 +27,7 @@ impl<T> Model for Row<T> {
 }
 
 impl<T> Row<T> {
+    /// No element.
     pub fn new(alloc: Global) -> Row<T>
         ensures { result ≡ [] }
     {
@@ -35,18 +36,21 @@ impl<T> Row<T> {
         }
     }
 
+    /// How many elements there are.
     pub fn len(&self) -> usize
         ensures { result ≡ length self.now }
     {
         self.items.len()
     }
 
+    /// The elements in order.
     pub fn as_slice(&self) -> &[T]
         ensures { result.now ≡ self.now }
     {
         self.items.as_slice()
     }
 
+    /// The element at a place from 0, if there is one.
     pub fn get(&self, at: usize) -> Option<&T>
         ensures { option_copied result ≡ slice_get self.now at }
     {
@@ -64,7 +68,7 @@ impl<T> Row<T> {
 }
 
 impl<T: Drop> Row<T> {
-    /// On an `Err` the row is as it was.
+    /// Adds an element at the end. On an `Err` the row is as it was.
     pub fn push(&mut self, item: T) -> Result<(), AllocError>
         ensures ok { OnOk result (self.new ≡ self.old ++ item ∷ []) }
         ensures err { OnErr result (self.new ≡ self.old) }
