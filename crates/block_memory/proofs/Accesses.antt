@@ -1,5 +1,5 @@
 -- What a call answers that found its cell, or met a trap.
-use Rattle.std.proofs.Common.{ℕ, ◌+◌, ◌≡◌, refl, sym, ap, ◌∙◌, List, Result, Ok, Err, Bool, true, false, arith}
+use Rattle.std.proofs.Common.{◌≡◌, refl, sym, ap, ◌∙◌, List, Result, Ok, Err, true, false, arith}
 use Rattle.oc_tree.specs.declared.types.CType.{CType}
 use Rattle.oc_tree.specs.declared.memory.Address.{Address}
 use Rattle.oc_tree.specs.declared.memory.Address.TheVariants.{Null, At}

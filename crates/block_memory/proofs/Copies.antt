@@ -1,5 +1,5 @@
 -- Cells that are checked and copied one after the other.
-use Rattle.std.proofs.Common.{ℕ, zero, suc, ◌+◌, ◌-◌, ◌<◌, ◌≤◌, ◌≡◌, refl, sym, ap, ◌∙◌, subst, List, [], ◌∷◌, ◌++◌, length, drop, Option, Some, None, slice_get, Result, Ok, Err, Bool, true, false, arith}
+use Rattle.std.proofs.Common.{ℕ, zero, suc, ◌+◌, ◌-◌, ◌<◌, ◌≤◌, ◌≡◌, refl, sym, ap, ◌∙◌, subst, List, [], ◌∷◌, length, drop, Option, Some, None, slice_get, Ok, Err, true, false, arith}
 use Rattle.oc_tree.specs.declared.types.CType.{CType}
 use Rattle.oc_tree.specs.declared.memory.Address.{Address}
 use Rattle.oc_tree.specs.declared.memory.Address.TheVariants.{Null, At}

@@ -1,8 +1,10 @@
 -- Each cell's value is of its leaf's form, and stays so.
-use Rattle.std.proofs.Common.{ℕ, zero, suc, ◌+◌, ◌≤◌, ◌<◌, ◌≡◌, refl, sym, ap, ◌∙◌, subst, List, [], ◌∷◌, ◌++◌, length, Option, Some, None, slice_get, Result, Ok, Err, Bool, true, false, ℤ, pos, nat_eq, arith}
+use Rattle.std.proofs.Common.{ℕ, zero, suc, ◌≡◌, refl, sym, ap, ◌∙◌, subst, List, [], ◌∷◌, ◌++◌, length, Option, Some, None, slice_get, Result, Ok, Err, Bool, true, false, pos}
 use Rattle.std.specs.Prelude.{◌&&◌, ◌||◌, IfOk}
 use Rattle.std.proofs.lemmas.Bool.{false≢true}
 use Rattle.oc_values.specs.declared.integers.IntKind.{IntKind}
+use Rattle.oc_values.specs.declared.integers.IntKind.TheVariants.{Bool as KBool, I8, U8, I16, U16, I32, U32, I64, U64}
+use Rattle.oc_values.specs.Integers.{IsOfKind}
 use Rattle.oc_tree.specs.declared.types.CType.{CType, Int as CInt, Pointer', Array', Struct, Nothing}
 use Rattle.oc_tree.specs.declared.memory.Address.{Address}
 use Rattle.oc_tree.specs.declared.memory.Address.TheVariants.{Null, At}
@@ -12,8 +14,7 @@ use Rattle.oc_tree.specs.declared.memory.Cell.{Cell}
 use Rattle.oc_tree.specs.declared.memory.Block.{Block}
 use Rattle.oc_tree.specs.declared.memory.Block.TheVariants.{Live, Gone}
 use Rattle.oc_tree.specs.declared.outcome.TrapKind.{TrapKind}
-use Rattle.oc_tree.specs.declared.outcome.TrapKind.TheVariants.{M1, M2, M3, M5}
-use Rattle.oc_tree.specs.Types.{same, fits, is_frozen_pointer, IsLeaf}
+use Rattle.oc_tree.specs.Types.{same, fits, IsLeaf}
 use Rattle.oc_tree.proofs.Equal.{same_is, same_back}
 use Rattle.block_memory.specs.Content.{AreLeaves}
 use Rattle.oc_tree.specs.Memory.{then, live, within, only, cell, load, loadable, storable, all_storable, update, written, in_live, put, take_over, copied, next, ended, blank, blanks, HasForm, CellsHaveForm, BlockHasForm, AllHaveForm}

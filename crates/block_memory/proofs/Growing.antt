@@ -1,6 +1,6 @@
 -- Cells that are added leaf by leaf, copy by copy.
 use Rattle.std.proofs.Common.{ℕ, ◌+◌, ◌<◌, ◌≤◌, ◌≡◌, refl, sym, ap, ◌∙◌, List, [], ◌∷◌, ◌++◌, suc, take, length, get_or, append_assoc, arith}
-use Rattle.std.proofs.lemmas.List.{take_more, append-nil}
+use Rattle.std.proofs.lemmas.List.{take_more}
 use Rattle.oc_values.specs.declared.integers.IntKind.{IntKind}
 use Rattle.oc_tree.specs.declared.types.CType.{CType, Array}
 use Rattle.oc_tree.specs.declared.memory.Cell.{Cell}

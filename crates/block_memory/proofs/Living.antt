@@ -1,5 +1,5 @@
 -- The number of live cells as blocks are made and end.
-use Rattle.std.proofs.Common.{ℕ, zero, suc, ◌+◌, ◌*◌, ◌≤◌, ◌<◌, ◌^◌, ◌≡◌, refl, sym, ap, ◌∙◌, subst, List, [], ◌∷◌, ◌++◌, length, Option, Some, None, slice_get, slice_set, arith, Bool, true, false, max}
+use Rattle.std.proofs.Common.{ℕ, zero, suc, ◌+◌, ◌*◌, ◌≤◌, ◌<◌, ◌^◌, ◌≡◌, refl, sym, ap, ◌∙◌, subst, List, [], ◌∷◌, ◌++◌, length, Option, Some, None, slice_get, slice_set, arith, Bool, max}
 use Rattle.std.specs.Option.{unwrap_or}
 use Rattle.oc_values.specs.declared.integers.IntKind.{IntKind}
 use Rattle.oc_tree.specs.declared.types.CType.{CType}
@@ -7,7 +7,7 @@ use Rattle.oc_tree.specs.declared.memory.Cell.{Cell}
 use Rattle.oc_tree.specs.declared.memory.Block.{Block}
 use Rattle.oc_tree.specs.declared.memory.Block.TheVariants.{Live, Gone}
 use Rattle.oc_tree.specs.Layout.{repeated}
-use Rattle.oc_tree.specs.Memory.{weight, living, blanks, ended, update}
+use Rattle.oc_tree.specs.Memory.{weight, living, blanks, ended}
 use Rattle.oc_tree.proofs.Lengths.{length_repeated}
 use Rattle.oc_tree.proofs.Updates.{set_update}
 

@@ -1,5 +1,5 @@
 -- Whether a new block has room.
-use Rattle.std.proofs.Common.{ℕ, zero, suc, ◌+◌, ◌*◌, ◌≤◌, ◌<◌, ◌^◌, ◌≡◌, refl, sym, ap, ◌∙◌, subst, List, [], ◌∷◌, ◌++◌, length, Result, Ok, Err, arith, Bool, true, false, max, ℤ, pos, negsuc, nat_le, nat_lt, ◌⊎◌, inl, inr, ⊎_elim, w32, ◌≤ℤ◌, ◌<ℤ◌}
+use Rattle.std.proofs.Common.{ℕ, ◌+◌, ◌*◌, ◌≤◌, ◌<◌, ◌^◌, ◌≡◌, refl, sym, ap, ◌∙◌, subst, List, [], ◌∷◌, ◌++◌, length, Ok, Err, arith, Bool, true, false, max, ℤ, pos, negsuc, nat_le, nat_lt, w32}
 use Rattle.std.specs.Prelude.{◌&&◌}
 use Rattle.std.specs.Int.{FitsUnsigned}
 use Rattle.std.proofs.Math.IntN.{nat_abs}
@@ -8,10 +8,10 @@ use Rattle.std.proofs.lemmas.Int.{ints}
 use Rattle.oc_values.specs.declared.integers.IntKind.{IntKind}
 use Rattle.oc_tree.specs.declared.types.CType.{CType}
 use Rattle.oc_tree.specs.declared.memory.Block.{Block}
-use Rattle.oc_tree.specs.declared.memory.Block.TheVariants.{Live, Gone}
+use Rattle.oc_tree.specs.declared.memory.Block.TheVariants.{Live}
 use Rattle.oc_tree.specs.declared.outcome.TrapKind.TheVariants.{M4}
 use Rattle.oc_tree.specs.Layout.{repeated}
-use Rattle.oc_tree.specs.Memory.{weight, living, blanks, joined, make, make_copies}
+use Rattle.oc_tree.specs.Memory.{weight, living, blanks, joined, make_copies}
 use Rattle.block_memory.proofs.Living.{weight_of_copies, living_more}
 
 le_of : (m n : ℕ) → nat_le m n ≡ true → m ≤ n

@@ -1,5 +1,5 @@
 -- A cell that is written, as the code writes it, and what stays the same.
-use Rattle.std.proofs.Common.{ℕ, zero, suc, ◌+◌, ◌≤◌, ◌<◌, ◌≡◌, refl, sym, ap, ◌∙◌, subst, List, [], ◌∷◌, Option, Some, None, slice_get, slice_set, length, arith, Bool}
+use Rattle.std.proofs.Common.{ℕ, zero, suc, ◌+◌, ◌≤◌, ◌≡◌, refl, sym, ap, ◌∙◌, List, [], ◌∷◌, Some, slice_get, slice_set, length, arith, Bool}
 use Rattle.oc_tree.specs.declared.memory.Address.{Address}
 use Rattle.oc_tree.specs.declared.memory.Address.TheVariants.{Null, At}
 use Rattle.oc_tree.specs.declared.memory.CellValue.{CellValue}

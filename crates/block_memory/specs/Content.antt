@@ -1,10 +1,10 @@
 -- What the blocks of a run are to contracts, and what the calls that change them answer.
-use Rattle.std.specs.Prelude.{◌≡◌, ◌≤◌, ◌<◌, nat_le, Bool, ◌&&◌, ℕ, ◌+◌, List, [], ◌∷◌, length, slice_get, Option, Some, None, Result, Ok, Err, true, false}
+use Rattle.std.specs.Prelude.{◌≡◌, ◌≤◌, ◌<◌, nat_le, Bool, ◌&&◌, ℕ, ◌+◌, List, [], ◌∷◌, length, slice_get, Option, Some, Result, Ok, Err, true, false}
 use Rattle.oc_tree.specs.declared.types.CType.{CType}
 use Rattle.oc_tree.specs.declared.memory.Address.{Address}
 use Rattle.oc_tree.specs.declared.memory.Address.TheVariants.{Null, At}
 use Rattle.oc_tree.specs.declared.memory.Block.{Block}
-use Rattle.oc_tree.specs.declared.memory.Block.TheVariants.{Live, Gone}
+use Rattle.oc_tree.specs.declared.memory.Block.TheVariants.{Live}
 use Rattle.oc_tree.specs.declared.outcome.TrapKind.{TrapKind}
 use Rattle.oc_tree.specs.Types.{IsLeaf}
 use Rattle.oc_tree.specs.Memory.{living, AllHaveForm}

@@ -1,4 +1,3 @@
-use Rattle.std.proofs.Common.{◌≡◌}
 use Rattle.oc_tree.specs.Layout.{leaves}
 use Rattle.block_memory.proofs.Growing.{copies_step, all_copies}
 use Rattle.block_memory.proofs.blocks.push_copies.Goals as goal

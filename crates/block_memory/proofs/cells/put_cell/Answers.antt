@@ -1,4 +1,4 @@
-use Rattle.std.proofs.Common.{◌≡◌, ◌∙◌, ap, Some, refl, sym, ◌+◌}
+use Rattle.std.proofs.Common.{◌∙◌, ap, Some, refl, ◌+◌}
 use Rattle.block_memory.proofs.Writes.{put_live, put_gone, put_past}
 use Rattle.block_memory.proofs.cells.put_cell.Goals as goal
 

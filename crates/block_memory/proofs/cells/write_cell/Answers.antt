@@ -1,4 +1,4 @@
-use Rattle.std.proofs.Common.{sym, rules}
+use Rattle.std.proofs.Common.{sym}
 use Rattle.oc_tree.specs.Memory.{written}
 use Rattle.block_memory.proofs.Writes.{update_past}
 use Rattle.block_memory.proofs.cells.write_cell.Goals as goal

@@ -1,4 +1,4 @@
-use Rattle.std.proofs.Common.{◌≡◌, ◌∙◌, ap, sym, ◌<◌, ◌≤◌, Some, None, subst}
+use Rattle.std.proofs.Common.{◌∙◌, ap, sym, ◌<◌, ◌≤◌, subst}
 use Rattle.std.specs.Option.{option_copied}
 use Rattle.oc_tree.specs.Layout.{leaves}
 use Rattle.block_memory.proofs.Copies.{stores_from_start, store_passes, store_fails, store_traps, stores_end, get_is_some}

@@ -1,4 +1,4 @@
-use Rattle.std.proofs.Common.{◌≡◌, ◌∙◌, sym}
+use Rattle.std.proofs.Common.{◌∙◌, sym}
 use Rattle.block_memory.proofs.Copies.{copied_start, copied_step, copied_end}
 use Rattle.block_memory.proofs.copying.copy_all.Goals as goal
 

@@ -1,4 +1,3 @@
-use Rattle.std.proofs.Common.{◌≡◌}
 use Rattle.block_memory.proofs.Sizes.{counts_array}
 use Rattle.block_memory.proofs.layout.+count_cells.Goals as goal
 

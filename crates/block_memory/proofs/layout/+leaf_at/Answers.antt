@@ -1,4 +1,4 @@
-use Rattle.std.proofs.Common.{◌≡◌, ℕ, inl, inr}
+use Rattle.std.proofs.Common.{inl, inr}
 use Rattle.std.specs.Option.{option_copied}
 use Rattle.block_memory.proofs.Sizes.{leaf_in_array, no_leaf_in_array}
 use Rattle.block_memory.proofs.layout.+leaf_at.Goals as goal

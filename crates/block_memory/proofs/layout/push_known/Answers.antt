@@ -1,4 +1,3 @@
-use Rattle.std.proofs.Common.{◌≡◌}
 use Rattle.block_memory.proofs.Growing.{known_step}
 use Rattle.block_memory.proofs.layout.push_known.Goals as goal
 

@@ -1,4 +1,4 @@
-use Rattle.std.proofs.Common.{◌≡◌, ap, sym, subst, refl, ◌∙◌, ◌≤◌, length}
+use Rattle.std.proofs.Common.{ap, sym, subst, ◌∙◌, ◌≤◌, length}
 use Rattle.oc_tree.specs.Layout.{leaves}
 use Rattle.oc_tree.specs.Memory.{living, AllHaveForm, copied}
 use Rattle.block_memory.proofs.Writes.{living_copied}

@@ -1,4 +1,4 @@
-use Rattle.std.proofs.Common.{◌≡◌, ap, sym, subst, refl, arith, ◌∙◌, rules}
+use Rattle.std.proofs.Common.{ap, sym, subst, arith, rules}
 use Rattle.oc_tree.specs.Memory.{living, AllHaveForm}
 use Rattle.block_memory.specs.Content.{AllAreLeaves}
 use Rattle.block_memory.proofs.Leafy.{leafy_structs}

@@ -1,4 +1,4 @@
-use Rattle.std.proofs.Common.{◌≡◌, ◌∙◌, ap, sym, Some}
+use Rattle.std.proofs.Common.{◌∙◌, ap, sym, Some}
 use Rattle.block_memory.proofs.Living.{below_limit}
 use Rattle.block_memory.proofs.blocks.Blocks.offset.Goals as goal
 
