@@ -2,11 +2,15 @@
 """Times the command `clear` on long sources of several forms, and prints a table for docs/PERFORMANCE.md.
 
 All but the first are refused only because their trees aren't of the first form, so both their tokens and their trees
-are read. Each time is the least of twenty runs, with the start of the process. Run it after the program was built by the
-launcher, or name another built program.
+are read. Each time is the least of twenty runs, with the start of the process. Where `valgrind` is there, growth is told
+by the instructions that it counts, which are the same in every run. Memory is the peak of the longest source. Run it
+after the program was built by the launcher, or name another built program.
 """
 
+import os
 import pathlib
+import re
+import shutil
 import subprocess
 import sys
 import tempfile
@@ -57,7 +61,23 @@ def names(size):
 
 
 def defines(size):
-    return filled(b"", lambda i: b"#define N%d %d\n" % (i, i), b"", size)
+    return filled(b"", lambda i: b"#define N%d 1\n" % i, b"", size)
+
+
+def long_name(size):
+    start, end = b"void f(void) {\nstruct ", b" " + b", ".join([b"b%d" % i for i in range(495)]) + b";\n}\n"
+    return start + b"s" * (size - len(start) - len(end)) + end
+
+
+TOKEN = re.compile(rb"/\*.*?\*/|#[^\n]*|\s+|(\w+|\"[^\"]*\"|[<>=!+*/%&|^-]=|\+\+|--|&&|\|\||<<|>>|->|.)")
+
+
+def count_tokens(source):
+    return sum(1 for found in TOKEN.finditer(source) if found.group(1))
+
+
+def words_of(program):
+    return [program, "clear", "program.oc", "--input1", "input", "--input2", "input"]
 
 
 def least_time(program, folder, source):
@@ -65,28 +85,51 @@ def least_time(program, folder, source):
     times = []
     for _ in range(RUNS):
         start = time.perf_counter()
-        ran = subprocess.run(
-            [program, "clear", "program.oc", "--input1", "input", "--input2", "input"], cwd=folder, capture_output=True, check=False
-        )
+        ran = subprocess.run(words_of(program), cwd=folder, capture_output=True, check=False)
         times.append(time.perf_counter() - start)
         if ran.returncode > 1 or (ran.returncode == 1 and ran.stderr != REFUSED):
             sys.exit(f"status {ran.returncode}, {ran.stderr!r}")
     return min(times)
 
 
+def peak_of(program, folder):
+    with subprocess.Popen(words_of(program), cwd=folder, stdout=subprocess.DEVNULL, stderr=subprocess.DEVNULL) as process:
+        _, status, used = os.wait4(process.pid, 0)
+        process.returncode = status
+    return used.ru_maxrss * 1024
+
+
+def count_instructions(program, folder, source):
+    (folder / "program.oc").write_bytes(source)
+    words = ["valgrind", "--tool=callgrind", "--callgrind-out-file=/dev/null", *words_of(program)]
+    ran = subprocess.run(words, cwd=folder, capture_output=True, check=False)
+    return int(re.search(rb"Collected : (\d+)", ran.stderr).group(1))
+
+
+def growth(program, folder, sources):
+    if shutil.which("valgrind") is None:
+        return ["", ""]
+    counts = [count_instructions(program, folder, source) for source in sources]
+    return [f"{after / before:.2f}" for before, after in zip(counts, counts[1:])]
+
+
 def main():
     program = pathlib.Path(sys.argv[1] if len(sys.argv) > 1 else TOP / "oblivcc-build" / "oblivcc").resolve()
     if not program.exists():
         sys.exit("there is no program: run ./oblivcc first")
-    print("| Source |", " | ".join(f"{size // 1024} KiB" for size in SIZES), "| Most of one to the one before |")
-    print("|---|---|---|---|---|")
+    kib = [f"{size // 1024} KiB" for size in SIZES]
+    print("| Source |", " | ".join(kib), f"| Instructions of {kib[1]} to {kib[0]} | of {kib[2]} to {kib[1]} | Most memory | Tokens | A token |")
+    print("|---|---|---|---|---|---|---|---|---|")
     with tempfile.TemporaryDirectory() as name:
         folder = pathlib.Path(name)
         (folder / "input").write_bytes(b"5\n")
-        for form in [blanks, ordinary, statements, expressions, names, defines]:
-            times = [least_time(program, folder, form(size)) for size in SIZES]
-            most = max(after / before for before, after in zip(times, times[1:]))
-            print(f"| {form.__name__} |", " | ".join(f"{took * 1000:.0f} ms" for took in times), f"| {most:.2f} |")
+        for form in [blanks, ordinary, statements, expressions, names, defines, long_name]:
+            sources = [form(size) for size in SIZES]
+            times = [least_time(program, folder, source) for source in sources]
+            peak, tokens = peak_of(program, folder), count_tokens(sources[-1])
+            cells = [f"{took * 1000:.0f} ms" for took in times] + growth(program, folder, sources)
+            cells += [f"{peak / 2**20:.0f} MiB", str(tokens), f"{peak / tokens:.0f} bytes" if tokens > 10_000 else ""]
+            print(f"| {form.__name__} |", " | ".join(cells), "|")
 
 
 if __name__ == "__main__":

@@ -33,12 +33,12 @@ fn array(alloc: Global, len: u32, of: CType) -> Result<CType, AllocError> {
     })
 }
 
-/// `struct pair { int number; obliv int *left, *right; }`, of three cells.
+/// `struct pair { int number; int *left, *right; }`, of three cells.
 fn structs_of_pair(alloc: Global) -> Result<Items<StructType>, Fail> {
     let mut fields = Items::new(alloc);
     fields.push(field(alloc, b"number", INT, 0)?)?;
-    fields.push(field(alloc, b"left", pointer(alloc, false, HIDDEN)?, 1)?)?;
-    fields.push(field(alloc, b"right", pointer(alloc, false, HIDDEN)?, 2)?)?;
+    fields.push(field(alloc, b"left", pointer(alloc, false, INT)?, 1)?)?;
+    fields.push(field(alloc, b"right", pointer(alloc, false, INT)?, 2)?)?;
     let mut structs = Items::new(alloc);
     structs.push(StructType {
         name: Name::from_bytes(alloc, b"pair")?,
@@ -100,18 +100,22 @@ fn cells_of_types(rt: HostRuntime) -> Result<(), Fail> {
     let structs = structs_of_pair(alloc)?;
     let pairs = array(alloc, 2, CType::Struct(0))?;
     let rows = array(alloc, 2, array(alloc, 3, BYTE)?)?;
-    let plain = pointer(alloc, false, HIDDEN)?;
-    let frozen = pointer(alloc, true, HIDDEN)?;
+    let plain = pointer(alloc, false, INT)?;
+    let frozen = pointer(alloc, true, INT)?;
+    let deep = pointer(alloc, false, pointer(alloc, false, INT)?)?;
+    let frozen_deep = pointer(alloc, true, pointer(alloc, true, INT)?)?;
     let mut blocks = Blocks::new(alloc, &structs, 65536)?;
     assert_eq!(rt; make(&rt, &mut blocks, &int, 1, false), Ok(0));
     assert_eq!(rt; make(&rt, &mut blocks, &pairs, 1, true), Ok(1));
     assert_eq!(rt; make(&rt, &mut blocks, &rows, 1, false), Ok(2));
     assert_eq!(rt; make(&rt, &mut blocks, &int, 1, true), Ok(3));
     assert_eq!(rt; blocks.free_block(at(3, 0)), Ok(()));
+    assert_eq!(rt; make(&rt, &mut blocks, &deep, 1, false), Ok(4));
+    assert_eq!(rt; make(&rt, &mut blocks, &frozen, 1, false), Ok(5));
     // The address, the leaf that is asked for, and the trap of a load if there is one.
     let reads = [
         (Address::Null, &int, Some(TrapKind::M3)),
-        (at(4, 0), &int, Some(TrapKind::M2)),
+        (at(6, 0), &int, Some(TrapKind::M2)),
         (at(3, 0), &int, Some(TrapKind::M2)),
         (at(3, 9), &byte, Some(TrapKind::M2)),
         (at(0, 0), &int, None),
@@ -129,6 +133,11 @@ fn cells_of_types(rt: HostRuntime) -> Result<(), Fail> {
         (at(2, 5), &hidden, Some(TrapKind::M5)),
         (at(2, 6), &byte, Some(TrapKind::M1)),
         (at(2, u32::MAX), &byte, Some(TrapKind::M1)),
+        (at(4, 0), &deep, None),
+        (at(4, 0), &frozen_deep, None),
+        (at(4, 0), &frozen, Some(TrapKind::M5)),
+        (at(5, 0), &frozen, None),
+        (at(5, 0), &plain, Some(TrapKind::M5)),
     ];
     for (place, leaf, want) in reads {
         assert_eq!(rt;
@@ -141,6 +150,8 @@ fn cells_of_types(rt: HostRuntime) -> Result<(), Fail> {
     let pointers = [
         (&plain, at(1, 1), Ok(())),
         (&frozen, at(1, 1), Err(TrapKind::M5)),
+        (&frozen_deep, at(4, 0), Err(TrapKind::M5)),
+        (&frozen, at(5, 0), Ok(())),
         (&plain, at(1, 0), Err(TrapKind::M5)),
         (&plain, at(1, 6), Err(TrapKind::M1)),
         (&plain, at(3, 0), Err(TrapKind::M2)),
@@ -231,6 +242,10 @@ fn limits(rt: HostRuntime) -> Result<(), Fail> {
     assert_eq!(rt; make(&rt, &mut blocks, &hidden, 1, false), Ok(2));
     assert_eq!(rt; hidden_at(&blocks, at(2, 0)), Ok(0));
     let wide = array(alloc, 65536, HIDDEN)?;
+    let mut full = Blocks::new(alloc, &structs, 65536)?;
+    assert_eq!(rt; make(&rt, &mut full, &wide, 1, false), Ok(0));
+    assert_eq!(rt; make(&rt, &mut full, &hidden, 1, false), refused);
+    assert_eq!(rt; hidden_at(&full, at(0, 65535)), Ok(0));
     let too_wide = array(alloc, 257, array(alloc, 256, HIDDEN)?)?;
     let widest = array(alloc, u32::MAX, array(alloc, u32::MAX, HIDDEN)?)?;
     let none = array(alloc, 0, HIDDEN)?;
