@@ -1,5 +1,5 @@
 -- A source that breaks a rule has no tree.
-use Rattle.std.proofs.Common.{ℕ, ◌≡◌, List, sym, ap, ◌∙◌, subst, refl}
+use Rattle.std.proofs.Common.{ℕ, ◌≡◌, List, sym, ◌∙◌, subst, refl}
 use Rattle.oc_tree.specs.declared.spot.Spot.{Spot}
 use Rattle.oc_tree.specs.declared.parsed.Program.{Program}
 use Rattle.oc_tree.specs.declared.program.Typed.{Typed}
@@ -11,6 +11,7 @@ use Rattle.oc_grammar.specs.Headings.{Derives}
 use Rattle.oc_parser.specs.declared.ParseRule.{ParseRule}
 use Rattle.oc_parser.specs.Load.{IsLight}
 use Rattle.oc_parser.specs.Refusals.{Refuses as HasNoTree}
+use Rattle.oc_parser.specs.Trees.{IsTree}
 use Rattle.first_form.specs.First.{First}
 use Rattle.oblivc_main.specs.declared.stop.Rule.TheVariants as rule
 use Rattle.oblivc_main.specs.declared.stop.Refusal.{Refusal}
@@ -34,23 +35,18 @@ module _ (source : List ℕ) (lexed : Lexed) (is : IsLexed source lexed) (only :
     none = λ t f. never f.program (subst (λ ts. Derives f.program ts) (same_tokens f.program f.parsed) f.parsed.derived) (subst (λ ts. IsLight ts) (same_tokens f.program f.parsed) f.parsed.light);
   }
 
-  pub parsed : (program : Program) → IsLight lexed.tokens → Derives program lexed.tokens → program.end ≡ lexed.end → IsParsed source program
-  parsed program light derived end = record { lexed = lexed; tokens = is; light = light; derived = derived; end = end }
-
-  same_program : (p q : Program) → p.structs ≡ q.structs → p.functions ≡ q.functions → p.end ≡ q.end → p ≡ q
-  same_program p q structs functions end =
-      ap {B = Program} (λ s. record { structs = s; functions = p.functions; end = p.end }) structs
-      ∙ ap {B = Program} (λ f. record { structs = q.structs; functions = f; end = p.end }) functions
-      ∙ ap {B = Program} (λ e. record { structs = q.structs; functions = q.functions; end = e }) end
+  pub parsed : (program : Program) → IsLight lexed.tokens → IsTree lexed program → IsParsed source program
+  parsed program light tree = record { lexed = lexed; tokens = is; light = light; derived = tree.spelled; end = tree.end }
 
   -- of the form of its tree
-  pub form_refuses : (program : Program) → IsParsed source program → program.end ≡ lexed.end → ((other : Program) → Derives other lexed.tokens → (other.structs ≡ program.structs) × (other.functions ≡ program.functions)) → ((t : Typed) → First program t → ⊥) → IsRefused source (record { rule = rule.First; spot = record { line = 1; column = 1 } })
-  form_refuses program p ends one never = record {
+  pub form_refuses : (program : Program) → IsParsed source program → ((other : Program) → IsTree lexed other → other ≡ program) → ((t : Typed) → First program t → ⊥) → IsRefused source (record { rule = rule.First; spot = record { line = 1; column = 1 } })
+  form_refuses program p one never = record {
     broken = ((program, p, never), refl);
     none = λ t f. never t (subst (λ q. First q t) (same f.program f.parsed) f.first);
   }
     where
       same : (other : Program) → IsParsed source other → other ≡ program
-      same other o =
-          let trees = one other (subst (λ ts. Derives other ts) (same_tokens other o) o.derived) in
-          same_program other program trees.0 trees.1 (o.end ∙ o.tokens.end ∙ sym is.end ∙ sym ends)
+      same other o = one other (record {
+        spelled = subst (λ ts. Derives other ts) (same_tokens other o) o.derived;
+        end = o.end ∙ o.tokens.end ∙ sym is.end;
+      })

@@ -11,7 +11,7 @@ use Rattle.oc_lexer.specs.declared.token.Keyword.TheVariants as w
 use Rattle.oc_lexer.specs.declared.token.Sign.{Sign as SignType}
 use Rattle.oc_lexer.specs.declared.token.Sign.TheVariants as s
 use Rattle.oc_grammar.specs.declared.tables.Prefix.{Prefix}
-use Rattle.oc_grammar.specs.declared.tables.Joint.{Joint}
+use Rattle.oc_grammar.specs.declared.tables.Infix.{Infix}
 use Rattle.oc_grammar.specs.declared.tables.Opening.TheVariants as o
 use Rattle.oc_grammar.specs.Tokens.{Is, spot_at}
 use Rattle.oc_grammar.specs.Tables.{prefix, operator, assignment, strength, opening}
@@ -20,8 +20,8 @@ use Rattle.oc_grammar.specs.Trees.{Leaf, number, character, text, null, truth, f
 use Rattle.oc_grammar.specs.Expressions.{Rule, Expression, Before, before, assign, choose, operation, signed, cast, index, field, arrow, bumped, leaf, named, call, size, parens, at, Stops}
 use Rattle.oc_grammar.proofs.Reading.{Closes}
 use Rattle.oc_grammar.proofs.Calls.{made, is_made, spot_front}
-use Rattle.oc_expressions.specs.declared.signs.Post.{Post}
-use Rattle.oc_expressions.specs.Parts.{post, begins}
+use Rattle.oc_expressions.specs.declared.signs.Postfix.{Postfix}
+use Rattle.oc_expressions.specs.Parts.{postfix, begins}
 
 pub lower : {n m : ℕ} {v : Expr} {x : List Token} → n ≤ m → Expression m v x → Expression n v x
 lower h (at d g) = at d (omega arith)
@@ -29,26 +29,26 @@ lower h (at d g) = at d (omega arith)
 pub some_pair : {A B : Type 0} {p q : A × B} → Some p ≡ Some q → (p.0 ≡ q.0) × (p.1 ≡ q.1)
 some_pair {A} {B} {p} {q} h = let e : p ≡ q = cc in (ap (λ (p : A × B). p.0) e, ap (λ (p : A × B). p.1) e)
 
-pub operator_level : (sign : SignType) (n : ℕ) (joint : Joint) → operator sign ≡ Some (n, joint) → (3 ≤ n) × (n ≤ 12) × (strength (Sign sign) ≡ n)
-operator_level s.OrOr n joint h = let e : 3 ≡ n = (some_pair h).0 in (omega arith, omega arith, e)
-operator_level s.AndAnd n joint h = let e : 4 ≡ n = (some_pair h).0 in (omega arith, omega arith, e)
-operator_level s.Bar n joint h = let e : 5 ≡ n = (some_pair h).0 in (omega arith, omega arith, e)
-operator_level s.Caret n joint h = let e : 6 ≡ n = (some_pair h).0 in (omega arith, omega arith, e)
-operator_level s.Ampersand n joint h = let e : 7 ≡ n = (some_pair h).0 in (omega arith, omega arith, e)
-operator_level s.EqualEqual n joint h = let e : 8 ≡ n = (some_pair h).0 in (omega arith, omega arith, e)
-operator_level s.NotEqual n joint h = let e : 8 ≡ n = (some_pair h).0 in (omega arith, omega arith, e)
-operator_level s.Less n joint h = let e : 9 ≡ n = (some_pair h).0 in (omega arith, omega arith, e)
-operator_level s.LessEq n joint h = let e : 9 ≡ n = (some_pair h).0 in (omega arith, omega arith, e)
-operator_level s.Greater n joint h = let e : 9 ≡ n = (some_pair h).0 in (omega arith, omega arith, e)
-operator_level s.GreaterEq n joint h = let e : 9 ≡ n = (some_pair h).0 in (omega arith, omega arith, e)
-operator_level s.ShiftLeft n joint h = let e : 10 ≡ n = (some_pair h).0 in (omega arith, omega arith, e)
-operator_level s.ShiftRight n joint h = let e : 10 ≡ n = (some_pair h).0 in (omega arith, omega arith, e)
-operator_level s.Plus n joint h = let e : 11 ≡ n = (some_pair h).0 in (omega arith, omega arith, e)
-operator_level s.Minus n joint h = let e : 11 ≡ n = (some_pair h).0 in (omega arith, omega arith, e)
-operator_level s.Star n joint h = let e : 12 ≡ n = (some_pair h).0 in (omega arith, omega arith, e)
-operator_level s.Slash n joint h = let e : 12 ≡ n = (some_pair h).0 in (omega arith, omega arith, e)
-operator_level s.Percent n joint h = let e : 12 ≡ n = (some_pair h).0 in (omega arith, omega arith, e)
-operator_level _ n joint h = cc
+pub operator_level : (sign : SignType) (n : ℕ) (op : Infix) → operator sign ≡ Some (n, op) → (3 ≤ n) × (n ≤ 12) × (strength (Sign sign) ≡ n)
+operator_level s.OrOr n op h = let e : 3 ≡ n = (some_pair h).0 in (omega arith, omega arith, e)
+operator_level s.AndAnd n op h = let e : 4 ≡ n = (some_pair h).0 in (omega arith, omega arith, e)
+operator_level s.Bar n op h = let e : 5 ≡ n = (some_pair h).0 in (omega arith, omega arith, e)
+operator_level s.Caret n op h = let e : 6 ≡ n = (some_pair h).0 in (omega arith, omega arith, e)
+operator_level s.Ampersand n op h = let e : 7 ≡ n = (some_pair h).0 in (omega arith, omega arith, e)
+operator_level s.EqualEqual n op h = let e : 8 ≡ n = (some_pair h).0 in (omega arith, omega arith, e)
+operator_level s.NotEqual n op h = let e : 8 ≡ n = (some_pair h).0 in (omega arith, omega arith, e)
+operator_level s.Less n op h = let e : 9 ≡ n = (some_pair h).0 in (omega arith, omega arith, e)
+operator_level s.LessEq n op h = let e : 9 ≡ n = (some_pair h).0 in (omega arith, omega arith, e)
+operator_level s.Greater n op h = let e : 9 ≡ n = (some_pair h).0 in (omega arith, omega arith, e)
+operator_level s.GreaterEq n op h = let e : 9 ≡ n = (some_pair h).0 in (omega arith, omega arith, e)
+operator_level s.ShiftLeft n op h = let e : 10 ≡ n = (some_pair h).0 in (omega arith, omega arith, e)
+operator_level s.ShiftRight n op h = let e : 10 ≡ n = (some_pair h).0 in (omega arith, omega arith, e)
+operator_level s.Plus n op h = let e : 11 ≡ n = (some_pair h).0 in (omega arith, omega arith, e)
+operator_level s.Minus n op h = let e : 11 ≡ n = (some_pair h).0 in (omega arith, omega arith, e)
+operator_level s.Star n op h = let e : 12 ≡ n = (some_pair h).0 in (omega arith, omega arith, e)
+operator_level s.Slash n op h = let e : 12 ≡ n = (some_pair h).0 in (omega arith, omega arith, e)
+operator_level s.Percent n op h = let e : 12 ≡ n = (some_pair h).0 in (omega arith, omega arith, e)
+operator_level _ n op h = cc
 
 pub assignment_level : (sign : SignType) (op : Option BinaryOp) → assignment sign ≡ Some op → strength (Sign sign) ≡ 1
 assignment_level s.Assign op h = refl
@@ -64,13 +64,13 @@ assignment_level s.ShiftLeftAssign op h = refl
 assignment_level s.ShiftRightAssign op h = refl
 assignment_level _ op h = cc
 
-pub post_level : (sign : SignType) (said : Post) → post sign ≡ Some said → strength (Sign sign) ≡ 14
-post_level s.LeftBracket said h = refl
-post_level s.Dot said h = refl
-post_level s.Arrow said h = refl
-post_level s.PlusPlus said h = refl
-post_level s.MinusMinus said h = refl
-post_level _ said h = cc
+pub postfix_level : (sign : SignType) (said : Postfix) → postfix sign ≡ Some said → strength (Sign sign) ≡ 14
+postfix_level s.LeftBracket said h = refl
+postfix_level s.Dot said h = refl
+postfix_level s.Arrow said h = refl
+postfix_level s.PlusPlus said h = refl
+postfix_level s.MinusMinus said h = refl
+postfix_level _ said h = cc
 
 prefix_begins : (sign : SignType) (op : Prefix) → prefix sign ≡ Some op → begins (Sign sign) ≡ true
 prefix_begins s.Minus op h = refl

@@ -25,8 +25,8 @@ use Rattle.oc_grammar.specs.Expressions.{Expression, Before, before, none, some,
 use Rattle.oc_grammar.proofs.Reading.{start, also, turned, read, fails, ends, token_on, alone, Goes, sure, Closes, close_end, close_then, after_end, loop_on, loop_done, by_end, by_none, by_left, end_is, taken}
 use Rattle.oc_grammar.proofs.Calls.{made, is_made, not_next, no_sign, after_one, placed_found, placed_refused}
 use Rattle.oc_declarators.specs.Forms.{closed_type}
-use Rattle.oc_expressions.specs.declared.signs.Post.{Post}
-use Rattle.oc_expressions.specs.declared.signs.Post.TheVariants as p
+use Rattle.oc_expressions.specs.declared.signs.Postfix.{Postfix}
+use Rattle.oc_expressions.specs.declared.signs.Postfix.TheVariants as p
 use Rattle.std.proofs.Math.Bool.{Bool-set}
 use Rattle.oc_values.specs.declared.integers.IntKind.{IntKind}
 use Rattle.oc_tree.specs.declared.literal.Literal.{Literal}
@@ -37,56 +37,56 @@ use Rattle.oc_grammar.proofs.Lists.{CommaEnds}
 use Rattle.oc_declarators.specs.Forms.{base_after}
 use Rattle.oc_declarators.proofs.Marks.{base_out}
 use Rattle.oc_declarators.proofs.Names.{some_closed}
-use Rattle.oc_expressions.specs.Parts.{begins, LeafOf, leaf_of, post, post_after, PostStep, post_step, posts, closed_arguments, CallBy, call_by, size_after, name_after, PrimaryBy, by_leaf, by_size, by_name, primary, ParenAfter, by_cast, by_inner, Operand, by_paren, by_prefix, by_primary, BeginsType}
-use Rattle.oc_expressions.proofs.Levels.{post_level, begun, Begun, begins_other, begun_append, stops_less, stops_kind, goes_kind, same_said, some_expr}
+use Rattle.oc_expressions.specs.Parts.{begins, LeafOf, leaf_of, postfix, postfix_after, PostfixStep, postfix_step, postfixes, closed_arguments, CallBy, call_by, size_after, name_after, PrimaryBy, by_leaf, by_size, by_name, primary, ParenAfter, by_cast, by_inner, Operand, by_paren, by_prefix, by_primary, BeginsType}
+use Rattle.oc_expressions.proofs.Levels.{postfix_level, begun, Begun, begins_other, begun_append, stops_less, stops_kind, goes_kind, same_said, some_expr}
 use Rattle.oc_expressions.proofs.Operands.{operand_in, operand_out, primary_filled}
 
 -- ---- what stands after an operand
 
-module _ {spot : Spot} {f l : Expr} {ts rest : List Token} (loop : Leaves (posts spot f) (Ends 13) ts (posts spot l) rest) where
-  pub posts_done : NoSign post rest → Found (posts spot f) (Ends 13) ts l rest
-  posts_done n = loop_done loop (λ t us m xs a d. go t us m xs a d)
+module _ {spot : Spot} {f l : Expr} {ts rest : List Token} (loop : Leaves (postfixes spot f) (Ends 13) ts (postfixes spot l) rest) where
+  pub postfixes_done : NoSign postfix rest → Found (postfixes spot f) (Ends 13) ts l rest
+  postfixes_done n = loop_done loop (λ t us m xs a d. go t us m xs a d)
     where
-      go : (t : Token) (us : List Token) (m : Expr) (xs : List Token) → SameNext rest (t ∷ us) → PostStep spot l t m xs → ⊥
-      go t us m xs a (post_step {sign} {said} i h q) = no_sign post t rest us sign said n a i h
+      go : (t : Token) (us : List Token) (m : Expr) (xs : List Token) → SameNext rest (t ∷ us) → PostfixStep spot l t m xs → ⊥
+      go t us m xs a (postfix_step {sign} {said} i h q) = no_sign postfix t rest us sign said n a i h
 
-  module _ {said : Post} {r1 : List Token} (here : SignStarts post rest said r1) where
-    post_left : Leaves (posts spot f) (Ends 13) ts (Then (post_after spot l said) (λ m. posts spot m)) r1
-    post_left = turned (loop_on loop here.whole (λ zs h. goes_kind 13 here.token zs (omega (arith, post_level here.sign said here.says)) here.is h)) into out
+  module _ {said : Postfix} {r1 : List Token} (here : SignStarts postfix rest said r1) where
+    postfix_left : Leaves (postfixes spot f) (Ends 13) ts (Then (postfix_after spot l said) (λ m. postfixes spot m)) r1
+    postfix_left = turned (loop_on loop here.whole (λ zs h. goes_kind 13 here.token zs (omega (arith, postfix_level here.sign said here.says)) here.is h)) into out
       where
-        into : (v : Expr) (ys : List Token) → Then (post_after spot l said) (λ m. posts spot m) v ys → Then (PostStep spot l here.token) (λ m. posts spot m) v ys
-        into v _ (then d q) = then (post_step here.is here.says d) q
+        into : (v : Expr) (ys : List Token) → Then (postfix_after spot l said) (λ m. postfixes spot m) v ys → Then (PostfixStep spot l here.token) (λ m. postfixes spot m) v ys
+        into v _ (then d q) = then (postfix_step here.is here.says d) q
 
-        out : (v : Expr) (ys : List Token) → Then (PostStep spot l here.token) (λ m. posts spot m) v ys → Then (post_after spot l said) (λ m. posts spot m) v ys
-        out v _ (then {w = m} {xs = xs} (post_step i h d) q) = then (subst (λ said. post_after spot l said m xs) (same_said post i here.is h here.says) d) q
+        out : (v : Expr) (ys : List Token) → Then (PostfixStep spot l here.token) (λ m. postfixes spot m) v ys → Then (postfix_after spot l said) (λ m. postfixes spot m) v ys
+        out v _ (then {w = m} {xs = xs} (postfix_step i h d) q) = then (subst (λ said. postfix_after spot l said m xs) (same_said postfix i here.is h here.says) d) q
 
-    pub posted_fails : {r : List Token} → Refused (post_after spot l said) Any r1 r → Refused (posts spot f) (Ends 13) ts r
-    posted_fails g = fails post_left g (sure (λ b. (b, [], at_last)))
+    pub postfixed_fails : {r : List Token} → Refused (postfix_after spot l said) Any r1 r → Refused (postfixes spot f) (Ends 13) ts r
+    postfixed_fails g = fails postfix_left g (sure (λ b. (b, [], at_last)))
 
-    pub posted_read : {m : Expr} {r : List Token} → Found (post_after spot l said) Any r1 m r → Leaves (posts spot f) (Ends 13) ts (posts spot m) r
-    posted_read g = read post_left g (sure (λ b. (b, [], at_last)))
+    pub postfixed_read : {m : Expr} {r : List Token} → Found (postfix_after spot l said) Any r1 m r → Leaves (postfixes spot f) (Ends 13) ts (postfixes spot m) r
+    postfixed_read g = read postfix_left g (sure (λ b. (b, [], at_last)))
 
 module _ (spot : Spot) (l : Expr) {ts : List Token} where
-  pub index_fails : {r : List Token} → Refused (Before s.RightBracket) Any ts r → Refused (post_after spot l p.Index) Any ts r
-  index_fails f = fails (start (post_after spot l p.Index) Any ts) f (sure (λ b. close_end))
+  pub index_fails : {r : List Token} → Refused (Before s.RightBracket) Any ts r → Refused (postfix_after spot l p.Index) Any ts r
+  index_fails f = fails (start (postfix_after spot l p.Index) Any ts) f (sure (λ b. close_end))
 
-  pub index_read : {i : Expr} {r : List Token} → Found (Before s.RightBracket) Any ts i r → Found (post_after spot l p.Index) Any ts (expr spot (e.Index l i)) r
-  index_read f = ends (read (start (post_after spot l p.Index) Any ts) f (sure (λ b. close_end)))
+  pub index_read : {i : Expr} {r : List Token} → Found (Before s.RightBracket) Any ts i r → Found (postfix_after spot l p.Index) Any ts (expr spot (e.Index l i)) r
+  index_read f = ends (read (start (postfix_after spot l p.Index) Any ts) f (sure (λ b. close_end)))
 
-  pub field_fails : {r : List Token} → Refused ANamed Any ts r → Refused (post_after spot l p.Field) Any ts r
-  field_fails f = fails (start (post_after spot l p.Field) Any ts) f (sure (λ b. close_end))
+  pub field_fails : {r : List Token} → Refused ANamed Any ts r → Refused (postfix_after spot l p.Field) Any ts r
+  field_fails f = fails (start (postfix_after spot l p.Field) Any ts) f (sure (λ b. close_end))
 
-  pub field_read : {n : Named} {r : List Token} → Found ANamed Any ts n r → Found (post_after spot l p.Field) Any ts (expr spot (e.Field l n.name)) r
-  field_read f = ends (read (start (post_after spot l p.Field) Any ts) f (sure (λ b. close_end)))
+  pub field_read : {n : Named} {r : List Token} → Found ANamed Any ts n r → Found (postfix_after spot l p.Field) Any ts (expr spot (e.Field l n.name)) r
+  field_read f = ends (read (start (postfix_after spot l p.Field) Any ts) f (sure (λ b. close_end)))
 
-  pub arrow_fails : {r : List Token} → Refused ANamed Any ts r → Refused (post_after spot l p.Arrow) Any ts r
-  arrow_fails f = fails (start (post_after spot l p.Arrow) Any ts) f (sure (λ b. close_end))
+  pub arrow_fails : {r : List Token} → Refused ANamed Any ts r → Refused (postfix_after spot l p.Arrow) Any ts r
+  arrow_fails f = fails (start (postfix_after spot l p.Arrow) Any ts) f (sure (λ b. close_end))
 
-  pub arrow_read : {n : Named} {r : List Token} → Found ANamed Any ts n r → Found (post_after spot l p.Arrow) Any ts (expr spot (e.Arrow l n.name)) r
-  arrow_read f = ends (read (start (post_after spot l p.Arrow) Any ts) f (sure (λ b. close_end)))
+  pub arrow_read : {n : Named} {r : List Token} → Found ANamed Any ts n r → Found (postfix_after spot l p.Arrow) Any ts (expr spot (e.Arrow l n.name)) r
+  arrow_read f = ends (read (start (postfix_after spot l p.Arrow) Any ts) f (sure (λ b. close_end)))
 
-  pub bump_read : (up : Bool) → Found (post_after spot l (p.Bump up)) Any ts (expr spot (e.Bump up false l)) ts
-  bump_read up = ends (start (post_after spot l (p.Bump up)) Any ts)
+  pub bump_read : (up : Bool) → Found (postfix_after spot l (p.Bump up)) Any ts (expr spot (e.Bump up false l)) ts
+  bump_read up = ends (start (postfix_after spot l (p.Bump up)) Any ts)
 
 -- ---- an operand
 
@@ -112,12 +112,12 @@ first_spot h = rw h refl
 operand_opened : (ts : List Token) → Leaves (Expression 13) (Ends 13) ts Operand ts
 operand_opened ts = turned (start (Expression 13) (Ends 13) ts) operand_in operand_out
 
-posts_follow : (b : Spot × Expr) (v : Expr) (ys zs : List Token) → posts b.0 b.1 v ys → Stops 13 zs → Stops 15 (ys ++ zs)
-posts_follow b v _ zs at_last k = stops_less zs (omega arith) k
-posts_follow b v _ zs (turn {t = t} {xs = xs} {ys = ys} (post_step {sign} {said} i h q) r) k = stops_kind 15 t ((xs ++ ys) ++ zs) (omega (arith, post_level sign said h)) i
+postfixes_follow : (b : Spot × Expr) (v : Expr) (ys zs : List Token) → postfixes b.0 b.1 v ys → Stops 13 zs → Stops 15 (ys ++ zs)
+postfixes_follow b v _ zs at_last k = stops_less zs (omega arith) k
+postfixes_follow b v _ zs (turn {t = t} {xs = xs} {ys = ys} (postfix_step {sign} {said} i h q) r) k = stops_kind 15 t ((xs ++ ys) ++ zs) (omega (arith, postfix_level sign said h)) i
 
-primary_goes : Goes (λ (p : Spot × Expr). Ends 15 p.1) (Ends 13) (λ p. posts p.0 p.1)
-primary_goes = record { follow = posts_follow; closes = λ b. (b.1, [], at_last) }
+primary_goes : Goes (λ (p : Spot × Expr). Ends 15 p.1) (Ends 13) (λ p. postfixes p.0 p.1)
+primary_goes = record { follow = postfixes_follow; closes = λ b. (b.1, [], at_last) }
 
 module _ {ts : List Token} where
   pub paren_left : {r1 : List Token} → Starts (Sign s.LeftParen) ts r1 → Leaves (Expression 13) (Ends 13) ts (ParenAfter (spot_at ts)) r1
@@ -147,10 +147,10 @@ module _ {ts : List Token} where
     part_read f = ends (read part_left f (after_end (λ w. expr (spot_at ts) (prefixed op w)) (λ b zs k. k)))
 
   module _ (n1 : NotNext (Sign s.LeftParen) ts) (n2 : NoSign prefix ts) where
-    plain_left : Leaves (Expression 13) (Ends 13) ts (Then (Placed primary) (λ p. posts p.0 p.1)) ts
+    plain_left : Leaves (Expression 13) (Ends 13) ts (Then (Placed primary) (λ p. postfixes p.0 p.1)) ts
     plain_left = also (operand_opened ts) (λ v ys q. by_primary q) (λ v us ys zs a d k g. go v us ys zs a d g)
       where
-        go : (v : Expr) (us ys zs : List Token) → SameNext ts us → Operand v ys → us ≡ ys ++ zs → Then (Placed primary) (λ p. posts p.0 p.1) v ys
+        go : (v : Expr) (us ys zs : List Token) → SameNext ts us → Operand v ys → us ≡ ys ++ zs → Then (Placed primary) (λ p. postfixes p.0 p.1) v ys
         go v us _ zs a (by_paren {t} {ys = ys} i q) g = absurd (not_next (Sign s.LeftParen) t ts (ys ++ zs) n1 (subst (λ us. SameNext ts us) g a) i)
         go v us _ zs a (by_prefix {t} {sign} {op} {ys = ys} i o q) g = absurd (no_sign prefix t ts (ys ++ zs) sign op n2 (subst (λ us. SameNext ts us) g a) i o)
         go v us _ zs a (by_primary q) g = q
@@ -158,7 +158,7 @@ module _ {ts : List Token} where
     pub plain_fails : {r : List Token} → Refused primary (Ends 15) ts r → Refused (Expression 13) (Ends 13) ts r
     plain_fails f = fails plain_left (placed_refused f) primary_goes
 
-    pub plain_read : {l : Expr} {r : List Token} → Found primary (Ends 15) ts l r → Leaves (Expression 13) (Ends 13) ts (posts (spot_at ts) l) r
+    pub plain_read : {l : Expr} {r : List Token} → Found primary (Ends 15) ts l r → Leaves (Expression 13) (Ends 13) ts (postfixes (spot_at ts) l) r
     plain_read f = read plain_left (placed_found primary_filled f) primary_goes
 
 -- ---- after an opening parenthesis
@@ -209,17 +209,17 @@ module _ (spot : Spot) {ts : List Token} where
       cast_read g = ends (read (read cast_left f (sure (some_operand spot))) g (after_end (λ w. expr spot (e.Cast ty w)) (λ b zs k. k)))
 
   module _ (n : BeginsType ts → ⊥) where
-    inner_left : Leaves (ParenAfter spot) (Ends 13) ts (Then (Before s.RightParen) (λ l. posts spot l)) ts
+    inner_left : Leaves (ParenAfter spot) (Ends 13) ts (Then (Before s.RightParen) (λ l. postfixes spot l)) ts
     inner_left = also (start (ParenAfter spot) (Ends 13) ts) (λ v ys q. by_inner q) (λ v us ys zs a d k g. go v us ys zs a d g)
       where
-        go : (v : Expr) (us ys zs : List Token) → SameNext ts us → ParenAfter spot v ys → us ≡ ys ++ zs → Then (Before s.RightParen) (λ l. posts spot l) v ys
+        go : (v : Expr) (us ys zs : List Token) → SameNext ts us → ParenAfter spot v ys → us ≡ ys ++ zs → Then (Before s.RightParen) (λ l. postfixes spot l) v ys
         go v us _ zs a (by_cast (then {xs = b} {zs = c} d q)) g = absurd (not_type ts us n a (rw (g, append_assoc b c zs) (type_first (c ++ zs) d)))
         go v us _ zs a (by_inner q) g = q
 
     pub inner_fails : {r : List Token} → Refused (Before s.RightParen) Any ts r → Refused (ParenAfter spot) (Ends 13) ts r
     inner_fails f = fails inner_left f (sure (λ b. (b, [], at_last)))
 
-    pub inner_read : {l : Expr} {r : List Token} → Found (Before s.RightParen) Any ts l r → Leaves (ParenAfter spot) (Ends 13) ts (posts spot l) r
+    pub inner_read : {l : Expr} {r : List Token} → Found (Before s.RightParen) Any ts l r → Leaves (ParenAfter spot) (Ends 13) ts (postfixes spot l) r
     inner_read f = read inner_left f (sure (λ b. (b, [], at_last)))
 
 -- ---- what stands alone

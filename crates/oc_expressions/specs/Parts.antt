@@ -13,7 +13,7 @@ use Rattle.oc_lexer.specs.declared.token.Sign.{Sign as SignType}
 use Rattle.oc_lexer.specs.declared.token.Sign.TheVariants as s
 use Rattle.oc_grammar.specs.declared.tables.Opening.TheVariants as o
 use Rattle.oc_grammar.specs.declared.tables.Prefix.{Prefix}
-use Rattle.oc_grammar.specs.declared.tables.Joint.{Joint}
+use Rattle.oc_grammar.specs.declared.tables.Infix.{Infix}
 use Rattle.oc_grammar.specs.Tokens.{Is, NotNext}
 use Rattle.oc_grammar.specs.Tables.{prefix, operator, assignment, opening}
 use Rattle.oc_tree.specs.Parsed.{expr}
@@ -22,8 +22,8 @@ use Rattle.oc_grammar.specs.Reading.{End, Then, By, Maybe, Loop}
 use Rattle.oc_grammar.specs.Calls.{One, ANamed, Placed}
 use Rattle.oc_grammar.specs.Expressions.{Expression, Before, Arguments, Stops}
 use Rattle.oc_declarators.specs.Forms.{closed_type}
-use Rattle.oc_expressions.specs.declared.signs.Post.{Post}
-use Rattle.oc_expressions.specs.declared.signs.Post.TheVariants as p
+use Rattle.oc_expressions.specs.declared.signs.Postfix.{Postfix}
+use Rattle.oc_expressions.specs.declared.signs.Postfix.TheVariants as p
 
 -- the tokens that an expression may begin with
 abbrev pub begins : TokenKind → Bool
@@ -51,28 +51,28 @@ pub data LeafOf (t : Token) : Expr → Type 0 where
   leaf_of : {node : ExprNode} → Leaf t.kind node → LeafOf t (expr t.spot node)
 
 -- what a sign begins after an operand
-abbrev pub post : SignType → Option Post
-post s.LeftBracket = Some p.Index
-post s.Dot = Some p.Field
-post s.Arrow = Some p.Arrow
-post s.PlusPlus = Some (p.Bump true)
-post s.MinusMinus = Some (p.Bump false)
-post _ = None
+abbrev pub postfix : SignType → Option Postfix
+postfix s.LeftBracket = Some p.Index
+postfix s.Dot = Some p.Field
+postfix s.Arrow = Some p.Arrow
+postfix s.PlusPlus = Some (p.Bump true)
+postfix s.MinusMinus = Some (p.Bump false)
+postfix _ = None
 
 -- after the operand l and that sign, where the whole begins at the spot
-abbrev pub post_after : Spot → Expr → Post → Expr → List Token → Type 0
-post_after spot l p.Index = Then (Before s.RightBracket) (λ i. End (expr spot (e.Index l i)))
-post_after spot l p.Field = Then ANamed (λ n. End (expr spot (e.Field l n.name)))
-post_after spot l p.Arrow = Then ANamed (λ n. End (expr spot (e.Arrow l n.name)))
-post_after spot l (p.Bump up) = End (expr spot (e.Bump up false l))
+abbrev pub postfix_after : Spot → Expr → Postfix → Expr → List Token → Type 0
+postfix_after spot l p.Index = Then (Before s.RightBracket) (λ i. End (expr spot (e.Index l i)))
+postfix_after spot l p.Field = Then ANamed (λ n. End (expr spot (e.Field l n.name)))
+postfix_after spot l p.Arrow = Then ANamed (λ n. End (expr spot (e.Arrow l n.name)))
+postfix_after spot l (p.Bump up) = End (expr spot (e.Bump up false l))
 
 -- one turn of what stands after operands
-pub data PostStep (spot : Spot) (l : Expr) (t : Token) : Expr → List Token → Type 0 where
-  post_step : {sign : SignType} {said : Post} {v : Expr} {ys : List Token} → Is (Sign sign) t → post sign ≡ Some said → post_after spot l said v ys → PostStep spot l t v ys
+pub data PostfixStep (spot : Spot) (l : Expr) (t : Token) : Expr → List Token → Type 0 where
+  postfix_step : {sign : SignType} {said : Postfix} {v : Expr} {ys : List Token} → Is (Sign sign) t → postfix sign ≡ Some said → postfix_after spot l said v ys → PostfixStep spot l t v ys
 
 -- all that stands after the operand l
-abbrev pub posts : Spot → Expr → Expr → List Token → Type 0
-posts spot = Loop (PostStep spot)
+abbrev pub postfixes : Spot → Expr → Expr → List Token → Type 0
+postfixes spot = Loop (PostfixStep spot)
 
 -- arguments and the closing parenthesis
 abbrev pub closed_arguments : List Expr → List Token → Type 0
@@ -102,13 +102,13 @@ primary = By PrimaryBy
 -- after an opening parenthesis at the spot: a type, and an operand; or an expression, and what stands after it
 pub data ParenAfter (spot : Spot) : Expr → List Token → Type 0 where
   by_cast : {v : Expr} {ys : List Token} → Then closed_type (λ ty. Then (Expression 13) (λ w. End (expr spot (e.Cast ty w)))) v ys → ParenAfter spot v ys
-  by_inner : {v : Expr} {ys : List Token} → Then (Before s.RightParen) (λ l. posts spot l) v ys → ParenAfter spot v ys
+  by_inner : {v : Expr} {ys : List Token} → Then (Before s.RightParen) (λ l. postfixes spot l) v ys → ParenAfter spot v ys
 
 -- an operand with all that stands before and after it
 pub data Operand : Expr → List Token → Type 0 where
   by_paren : {t : Token} {v : Expr} {ys : List Token} → Is (Sign s.LeftParen) t → ParenAfter t.spot v ys → Operand v (t ∷ ys)
   by_prefix : {t : Token} {sign : SignType} {op : Prefix} {v : Expr} {ys : List Token} → Is (Sign sign) t → prefix sign ≡ Some op → Then (Expression 13) (λ w. End (expr t.spot (prefixed op w))) v ys → Operand v (t ∷ ys)
-  by_primary : {v : Expr} {ys : List Token} → Then (Placed primary) (λ p. posts p.0 p.1) v ys → Operand v ys
+  by_primary : {v : Expr} {ys : List Token} → Then (Placed primary) (λ p. postfixes p.0 p.1) v ys → Operand v ys
 
 -- an assignment after its left side
 pub data AssignBy (spot : Spot) (l : Expr) (t : Token) : Expr → List Token → Type 0 where
@@ -119,18 +119,18 @@ pub data ChooseBy (spot : Spot) (c : Expr) (t : Token) : Expr → List Token →
   choose_by : {v : Expr} {ys : List Token} → Is (Sign s.Question) t → Then (Before s.Colon) (λ y. Then (Expression 2) (λ z. End (expr spot (e.Choose c y z)))) v ys → ChooseBy spot c t v ys
 
 -- An operator of level n, at least as tight as `least`, comes first, and then the rest.
-pub record Operates (ts : List Token) (least n : ℕ) (joint : Joint) (rest : List Token) : Type 0 where
+pub record Operates (ts : List Token) (least n : ℕ) (op : Infix) (rest : List Token) : Type 0 where
   pub token : Token
   pub sign : SignType
   pub is : Is (Sign sign) token
-  pub says : operator sign ≡ Some (n, joint)
+  pub says : operator sign ≡ Some (n, op)
   pub whole : ts ≡ token ∷ rest
   pub above : least ≤ n
 
 -- no operator of level n or above comes next
 abbrev pub Below : ℕ → List Token → Type 0
 Below n [] = Unit {0}
-Below n (t ∷ ts) = (sign : SignType) (i : ℕ) (joint : Joint) → Is (Sign sign) t → operator sign ≡ Some (i, joint) → i < n
+Below n (t ∷ ts) = (sign : SignType) (i : ℕ) (op : Infix) → Is (Sign sign) t → operator sign ≡ Some (i, op) → i < n
 
 -- a token with which a written type begins comes next
 abbrev pub BeginsType : List Token → Type 0

@@ -6,10 +6,12 @@ ghost use Rattle.oc_grammar.specs.Calls.{Reads};
 ghost use Rattle.oc_grammar.specs.Tables.{strength};
 ghost use Rattle.oc_grammar.specs.WrittenTypes.{Commas};
 ghost use Rattle.oc_grammar.specs.Expressions.{Expression, Before, Ends};
-ghost use Rattle.oc_expressions.specs.Parts.{primary, posts, post_after, closed_arguments, size_after, name_after, ParenAfter, Below, ListEnds};
+ghost use Rattle.oc_expressions.specs.Parts.{primary, postfixes, postfix_after, closed_arguments, size_after, name_after, ParenAfter, Below, ListEnds};
 
-use crate::leaves::{boxed, joined, leaf, prefixed};
-use crate::signs::{Post, assignment_next, begins_type, operation_next, post_next, prefix_next};
+use crate::leaves::{boxed, infixed, leaf, prefixed};
+use crate::signs::{
+    Postfix, assignment_next, begins_type, operation_next, postfix_next, prefix_next,
+};
 use oc_declarators::declarators::closed_type;
 use oc_grammar::ParseError;
 use oc_grammar::taking::{eat, expect, is_word, name, next, next_spot};
@@ -98,9 +100,9 @@ fn binary<'t>(
 {
     let spot = next_spot(tokens);
     let (mut left, mut rest) = unary(alloc, tokens)?;
-    while let Some((level, joint, after)) = operation_next(rest, least) {
+    while let Some((level, op, after)) = operation_next(rest, least) {
         let (right, after) = binary(alloc, after, level + 1)?;
-        left = joined(alloc, spot, joint, left, right)?;
+        left = infixed(alloc, spot, op, left, right)?;
         rest = after;
     }
     Ok((left, rest))
@@ -125,7 +127,7 @@ fn unary<'t>(
             }
             None => {
                 let (left, rest) = primary(alloc, tokens)?;
-                posts(alloc, rest, spot, left)
+                postfixes(alloc, rest, spot, left)
             }
         },
     }
@@ -147,24 +149,24 @@ fn parens<'t>(
         return Ok((boxed(alloc, spot, ExprNode::Cast { to, part })?, rest));
     }
     let (inner, rest) = before(alloc, tokens, Sign::RightParen)?;
-    posts(alloc, rest, spot, inner)
+    postfixes(alloc, rest, spot, inner)
 }
 
 // Reads what stands after an operand that begins at the spot.
 #[cycle(expr)]
-fn posts<'t>(
+fn postfixes<'t>(
     alloc: Global,
     tokens: &'t [Token],
     spot: Spot,
     first: Boxed<Expr>,
 ) -> Result<(Boxed<Expr>, &'t [Token]), ParseError<'t>>
-    ensures reads { Reads (posts spot first) (Ends 13) tokens.now result }
+    ensures reads { Reads (postfixes spot first) (Ends 13) tokens.now result }
     ensures shorter { IfOk result (λ found. length found.1.now ≤ length tokens.now) }
 {
     let mut left = first;
     let mut rest = tokens;
-    while let Some((post, after)) = post_next(rest) {
-        let (more, after) = posted(alloc, after, spot, left, post)?;
+    while let Some((postfix, after)) = postfix_next(rest) {
+        let (more, after) = postfixed(alloc, after, spot, left, postfix)?;
         left = more;
         rest = after;
     }
@@ -173,32 +175,32 @@ fn posts<'t>(
 
 // Reads what comes after one sign after an operand.
 #[cycle(expr)]
-fn posted<'t>(
+fn postfixed<'t>(
     alloc: Global,
     tokens: &'t [Token],
     spot: Spot,
     part: Boxed<Expr>,
-    post: Post,
+    postfix: Postfix,
 ) -> Result<(Boxed<Expr>, &'t [Token]), ParseError<'t>>
-    ensures reads { Reads (post_after spot part post) Any tokens.now result }
+    ensures reads { Reads (postfix_after spot part postfix) Any tokens.now result }
     ensures shorter { IfOk result (λ found. length found.1.now ≤ length tokens.now) }
 {
-    match post {
-        Post::Index => {
+    match postfix {
+        Postfix::Index => {
             let (amount, rest) = before(alloc, tokens, Sign::RightBracket)?;
             Ok((boxed(alloc, spot, ExprNode::Index { part, amount })?, rest))
         }
-        Post::Field => {
+        Postfix::Field => {
             let (named, rest) = name(alloc, tokens)?;
             let name = named.name;
             Ok((boxed(alloc, spot, ExprNode::Field { part, name })?, rest))
         }
-        Post::Arrow => {
+        Postfix::Arrow => {
             let (named, rest) = name(alloc, tokens)?;
             let name = named.name;
             Ok((boxed(alloc, spot, ExprNode::Arrow { part, name })?, rest))
         }
-        Post::Bump(up) => {
+        Postfix::Bump(up) => {
             let node = ExprNode::Bump {
                 up,
                 before: false,

@@ -4,10 +4,10 @@ ghost use Rattle.std.specs.Prelude.{◌≡◌, MatchOption, IfOk};
 ghost use Rattle.oc_tree.specs.declared.parsed.Expr.{Expr};
 ghost use Rattle.oc_tree.specs.declared.parsed.ExprNode.{ExprNode};
 ghost use Rattle.oc_tree.specs.Parsed.{expr};
-ghost use Rattle.oc_grammar.specs.Trees.{prefixed as prefixed_node, joined as joined_node, Leaf};
+ghost use Rattle.oc_grammar.specs.Trees.{prefixed as prefixed_node, infixed as infixed_node, Leaf};
 ghost use Rattle.oc_expressions.specs.Parts.{LeafOf};
 
-use oc_grammar::tables::{Joint, Prefix};
+use oc_grammar::tables::{Infix, Prefix};
 use oc_lexer::{Keyword, Token, TokenKind};
 use oc_tree::parsed::{Expr, ExprNode};
 use oc_tree::{IntKind, Literal, Spot};
@@ -44,18 +44,18 @@ pub fn prefixed(
 }
 
 /// Two operands with a sign between them.
-pub fn joined(
+pub fn infixed(
     alloc: Global,
     spot: Spot,
-    joint: Joint,
+    operator: Infix,
     left: Boxed<Expr>,
     right: Boxed<Expr>,
 ) -> Result<Boxed<Expr>, AllocError>
-    ensures { IfOk result (λ made. made ≡ expr spot (joined_node joint left right)) }
+    ensures { IfOk result (λ made. made ≡ expr spot (infixed_node operator left right)) }
 {
-    match joint {
-        Joint::Binary(op) => boxed(alloc, spot, ExprNode::Binary { op, left, right }),
-        Joint::Logic(all) => boxed(alloc, spot, ExprNode::Logic { all, left, right }),
+    match operator {
+        Infix::Binary(op) => boxed(alloc, spot, ExprNode::Binary { op, left, right }),
+        Infix::Logic(all) => boxed(alloc, spot, ExprNode::Logic { all, left, right }),
     }
 }
 

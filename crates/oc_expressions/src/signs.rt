@@ -3,10 +3,10 @@
 ghost use Rattle.std.specs.Prelude.{◌≡◌, MatchOption, IsTrue, ◌↔◌};
 ghost use Rattle.oc_grammar.specs.Tokens.{SignStarts, NoSign};
 ghost use Rattle.oc_grammar.specs.Tables.{prefix, assignment};
-ghost use Rattle.oc_expressions.specs.Parts.{post, Operates, Below, BeginsType};
+ghost use Rattle.oc_expressions.specs.Parts.{postfix, Operates, Below, BeginsType};
 
 use oc_grammar::tables::{
-    Joint, Opening, Prefix, assignment_of, opening_of, operator_of, prefix_of,
+    Infix, Opening, Prefix, assignment_of, opening_of, operator_of, prefix_of,
 };
 use oc_grammar::taking::{next, sign_of};
 use oc_lexer::{Sign, Token};
@@ -14,7 +14,7 @@ use oc_tree::BinaryOp;
 
 /// What stands after an operand.
 #[derive(Clone, Copy, Debug, PartialEq, Eq)]
-pub enum Post {
+pub enum Postfix {
     Index,
     Field,
     Arrow,
@@ -23,26 +23,26 @@ pub enum Post {
 }
 
 /// What a sign begins after an operand.
-pub fn post_of(sign: Sign) -> Option<Post>
-    ensures { result ≡ post sign }
+pub fn postfix_of(sign: Sign) -> Option<Postfix>
+    ensures { result ≡ postfix sign }
 {
     match sign {
-        Sign::LeftBracket => Some(Post::Index),
-        Sign::Dot => Some(Post::Field),
-        Sign::Arrow => Some(Post::Arrow),
-        Sign::PlusPlus => Some(Post::Bump(true)),
-        Sign::MinusMinus => Some(Post::Bump(false)),
+        Sign::LeftBracket => Some(Postfix::Index),
+        Sign::Dot => Some(Postfix::Field),
+        Sign::Arrow => Some(Postfix::Arrow),
+        Sign::PlusPlus => Some(Postfix::Bump(true)),
+        Sign::MinusMinus => Some(Postfix::Bump(false)),
         _ => None,
     }
 }
 
 /// What comes next after an operand.
-pub fn post_next(tokens: &[Token]) -> Option<(Post, &[Token])>
-    ensures { MatchOption result (NoSign post tokens.now) (λ found. SignStarts post tokens.now found.0 found.1.now) }
+pub fn postfix_next(tokens: &[Token]) -> Option<(Postfix, &[Token])>
+    ensures { MatchOption result (NoSign postfix tokens.now) (λ found. SignStarts postfix tokens.now found.0 found.1.now) }
 {
     let (token, rest) = next(tokens)?;
     let sign = sign_of(token)?;
-    let said = post_of(sign)?;
+    let said = postfix_of(sign)?;
     Some((said, rest))
 }
 
@@ -67,16 +67,16 @@ pub fn assignment_next(tokens: &[Token]) -> Option<(Option<BinaryOp>, &[Token])>
 }
 
 /// The operator that comes next, with its level, if it binds at least so tightly.
-pub fn operation_next(tokens: &[Token], least: u8) -> Option<(u8, Joint, &[Token])>
+pub fn operation_next(tokens: &[Token], least: u8) -> Option<(u8, Infix, &[Token])>
     ensures { MatchOption result (Below least tokens.now) (λ found. Operates tokens.now least found.0 found.1 found.2.now) }
 {
     let (token, rest) = next(tokens)?;
     let sign = sign_of(token)?;
-    let (level, joint) = operator_of(sign)?;
+    let (level, op) = operator_of(sign)?;
     if level < least {
         None
     } else {
-        Some((level, joint, rest))
+        Some((level, op, rest))
     }
 }
 

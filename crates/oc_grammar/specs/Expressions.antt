@@ -11,11 +11,11 @@ use Rattle.oc_lexer.specs.declared.token.Keyword.TheVariants as w
 use Rattle.oc_lexer.specs.declared.token.Sign.{Sign as SignType}
 use Rattle.oc_lexer.specs.declared.token.Sign.TheVariants as s
 use Rattle.oc_grammar.specs.declared.tables.Prefix.{Prefix}
-use Rattle.oc_grammar.specs.declared.tables.Joint.{Joint}
+use Rattle.oc_grammar.specs.declared.tables.Infix.{Infix}
 use Rattle.oc_grammar.specs.Tokens.{Is, spot_at}
 use Rattle.oc_grammar.specs.Tables.{prefix, operator, assignment, bump, strength}
 use Rattle.oc_tree.specs.Parsed.{expr}
-use Rattle.oc_grammar.specs.Trees.{prefixed, joined, Leaf}
+use Rattle.oc_grammar.specs.Trees.{prefixed, infixed, Leaf}
 use Rattle.oc_grammar.specs.WrittenTypes.{TypeNamed}
 
 -- `Rule n tree tokens`: the tokens spell the tree, and n is the level of the outermost rule. 1 is an assignment, 2 a
@@ -25,7 +25,7 @@ mutual
   pub data Rule : ℕ → Expr → List Token → Type 0 where
     assign : {sign : SignType} {op : Option BinaryOp} {t : Token} {l r : Expr} {x y : List Token} → Expression 2 l x → Is (Sign sign) t → assignment sign ≡ Some op → Expression 1 r y → Rule 1 (expr (spot_at x) (e.Assign op l r)) (x ++ t ∷ y)
     choose : {q : Token} {c y z : Expr} {xs ys zs : List Token} → Expression 3 c xs → Is (Sign s.Question) q → Before s.Colon y ys → Expression 2 z zs → Rule 2 (expr (spot_at xs) (e.Choose c y z)) (xs ++ q ∷ (ys ++ zs))
-    operation : {n : ℕ} {sign : SignType} {joint : Joint} {t : Token} {l r : Expr} {x y : List Token} → Expression n l x → Is (Sign sign) t → operator sign ≡ Some (n, joint) → Expression (n + 1) r y → Rule n (expr (spot_at x) (joined joint l r)) (x ++ t ∷ y)
+    operation : {n : ℕ} {sign : SignType} {op : Infix} {t : Token} {l r : Expr} {x y : List Token} → Expression n l x → Is (Sign sign) t → operator sign ≡ Some (n, op) → Expression (n + 1) r y → Rule n (expr (spot_at x) (infixed op l r)) (x ++ t ∷ y)
     signed : {sign : SignType} {op : Prefix} {t : Token} {v : Expr} {x : List Token} → Is (Sign sign) t → prefix sign ≡ Some op → Expression 13 v x → Rule 13 (expr t.spot (prefixed op v)) (t ∷ x)
     cast : {a b : Token} {to : TypeName} {v : Expr} {x y : List Token} → Is (Sign s.LeftParen) a → TypeNamed to y → Is (Sign s.RightParen) b → Expression 13 v x → Rule 13 (expr a.spot (e.Cast to v)) (a ∷ (y ++ b ∷ x))
     index : {a : Token} {v i : Expr} {x y : List Token} → Expression 14 v x → Is (Sign s.LeftBracket) a → Before s.RightBracket i y → Rule 14 (expr (spot_at x) (e.Index v i)) (x ++ a ∷ y)

@@ -12,8 +12,8 @@ use Rattle.oc_lexer.specs.declared.token.Sign.{Sign as SignType}
 use Rattle.oc_lexer.specs.declared.token.Sign.TheVariants as s
 use Rattle.oc_grammar.specs.declared.tables.Prefix.{Prefix}
 use Rattle.oc_grammar.specs.declared.tables.Prefix.TheVariants as p
-use Rattle.oc_grammar.specs.declared.tables.Joint.{Joint}
-use Rattle.oc_grammar.specs.declared.tables.Joint.TheVariants as j
+use Rattle.oc_grammar.specs.declared.tables.Infix.{Infix}
+use Rattle.oc_grammar.specs.declared.tables.Infix.TheVariants as i
 use Rattle.oc_grammar.specs.declared.tables.Width.{Width}
 use Rattle.oc_grammar.specs.declared.tables.Width.TheVariants as width
 use Rattle.oc_grammar.specs.declared.tables.Opening.{Opening}
@@ -32,25 +32,25 @@ prefix s.MinusMinus = Some (p.Bump false)
 prefix _ = None
 
 -- the left-associative operator that a sign is between two operands, and its level: the higher, the tighter
-abbrev pub operator : SignType → Option (ℕ × Joint)
-operator s.OrOr = Some (3, j.Logic false)
-operator s.AndAnd = Some (4, j.Logic true)
-operator s.Bar = Some (5, j.Binary b.Or)
-operator s.Caret = Some (6, j.Binary b.Xor)
-operator s.Ampersand = Some (7, j.Binary b.And)
-operator s.EqualEqual = Some (8, j.Binary b.Equal)
-operator s.NotEqual = Some (8, j.Binary b.NotEqual)
-operator s.Less = Some (9, j.Binary b.Less)
-operator s.LessEq = Some (9, j.Binary b.LessEq)
-operator s.Greater = Some (9, j.Binary b.Greater)
-operator s.GreaterEq = Some (9, j.Binary b.GreaterEq)
-operator s.ShiftLeft = Some (10, j.Binary b.Shl)
-operator s.ShiftRight = Some (10, j.Binary b.Shr)
-operator s.Plus = Some (11, j.Binary b.Add)
-operator s.Minus = Some (11, j.Binary b.Sub)
-operator s.Star = Some (12, j.Binary b.Mul)
-operator s.Slash = Some (12, j.Binary b.Div)
-operator s.Percent = Some (12, j.Binary b.Rem)
+abbrev pub operator : SignType → Option (ℕ × Infix)
+operator s.OrOr = Some (3, i.Logic false)
+operator s.AndAnd = Some (4, i.Logic true)
+operator s.Bar = Some (5, i.Binary b.Or)
+operator s.Caret = Some (6, i.Binary b.Xor)
+operator s.Ampersand = Some (7, i.Binary b.And)
+operator s.EqualEqual = Some (8, i.Binary b.Equal)
+operator s.NotEqual = Some (8, i.Binary b.NotEqual)
+operator s.Less = Some (9, i.Binary b.Less)
+operator s.LessEq = Some (9, i.Binary b.LessEq)
+operator s.Greater = Some (9, i.Binary b.Greater)
+operator s.GreaterEq = Some (9, i.Binary b.GreaterEq)
+operator s.ShiftLeft = Some (10, i.Binary b.Shl)
+operator s.ShiftRight = Some (10, i.Binary b.Shr)
+operator s.Plus = Some (11, i.Binary b.Add)
+operator s.Minus = Some (11, i.Binary b.Sub)
+operator s.Star = Some (12, i.Binary b.Mul)
+operator s.Slash = Some (12, i.Binary b.Div)
+operator s.Percent = Some (12, i.Binary b.Rem)
 operator _ = None
 
 -- the assignment that a sign is: by an operator, or plain

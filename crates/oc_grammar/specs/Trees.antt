@@ -14,8 +14,8 @@ use Rattle.oc_lexer.specs.declared.token.TokenKind.TheVariants.{Keyword, Number,
 use Rattle.oc_lexer.specs.declared.token.Keyword.TheVariants as w
 use Rattle.oc_grammar.specs.declared.tables.Prefix.{Prefix}
 use Rattle.oc_grammar.specs.declared.tables.Prefix.TheVariants as p
-use Rattle.oc_grammar.specs.declared.tables.Joint.{Joint}
-use Rattle.oc_grammar.specs.declared.tables.Joint.TheVariants as j
+use Rattle.oc_grammar.specs.declared.tables.Infix.{Infix}
+use Rattle.oc_grammar.specs.declared.tables.Infix.TheVariants as i
 
 -- an operand after a sign
 abbrev pub prefixed : Prefix → Expr → ExprNode
@@ -23,9 +23,9 @@ prefixed (p.Unary op) v = e.Unary op v
 prefixed (p.Bump up) v = e.Bump up true v
 
 -- two operands with a sign between them
-abbrev pub joined : Joint → Expr → Expr → ExprNode
-joined (j.Binary op) l r = e.Binary op l r
-joined (j.Logic all) l r = e.Logic all l r
+abbrev pub infixed : Infix → Expr → Expr → ExprNode
+infixed (i.Binary op) l r = e.Binary op l r
+infixed (i.Logic all) l r = e.Logic all l r
 
 -- The one token of this kind is an expression by itself: a number, a character, a text, `NULL`, `true` or `false`.
 pub data Leaf : TokenKind → ExprNode → Type 0 where

@@ -1,4 +1,16 @@
 //! The grammar, and the calls that read single tokens.
+//!
+//! `specs/Headings.antt` says which tokens spell a program (`Derives`), one case a production, over
+//! `Statements`, `Expressions` and `WrittenTypes`; `Tables` says what single signs and keywords stand for. The
+//! grammar is a relation: nothing in it says how a parser chooses.
+//!
+//! `specs/Reading.antt` says what it is to read a form from the front of a list of tokens, and
+//! `specs/Calls.antt` what a call that does so promises (`Reads`). What it answers is spelled by the tokens that
+//! it passed, and whatever follows the next token nothing else is. Where it fails, the tokens before that place
+//! begin the form, and with the next token they begin none. Each reading call of the crates above has that
+//! clause.
+//!
+//! `taking` passes single tokens, and `tables` has the tables of signs and keywords.
 #![tactic(auto)]
 
 pub mod tables;

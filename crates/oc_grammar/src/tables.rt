@@ -17,7 +17,7 @@ pub enum Prefix {
 
 /// A sign between two operands.
 #[derive(Clone, Copy, Debug, PartialEq, Eq)]
-pub enum Joint {
+pub enum Infix {
     Binary(BinaryOp),
     /// `&&` where it is true, else `||`.
     Logic(bool),
@@ -64,28 +64,28 @@ pub fn prefix_of(sign: Sign) -> Option<Prefix>
 }
 
 /// The left-associative operator that a sign is between two operands, and its level.
-pub fn operator_of(sign: Sign) -> Option<(u8, Joint)>
+pub fn operator_of(sign: Sign) -> Option<(u8, Infix)>
     ensures { result ≡ operator sign }
 {
     match sign {
-        Sign::OrOr => Some((3, Joint::Logic(false))),
-        Sign::AndAnd => Some((4, Joint::Logic(true))),
-        Sign::Bar => Some((5, Joint::Binary(BinaryOp::Or))),
-        Sign::Caret => Some((6, Joint::Binary(BinaryOp::Xor))),
-        Sign::Ampersand => Some((7, Joint::Binary(BinaryOp::And))),
-        Sign::EqualEqual => Some((8, Joint::Binary(BinaryOp::Equal))),
-        Sign::NotEqual => Some((8, Joint::Binary(BinaryOp::NotEqual))),
-        Sign::Less => Some((9, Joint::Binary(BinaryOp::Less))),
-        Sign::LessEq => Some((9, Joint::Binary(BinaryOp::LessEq))),
-        Sign::Greater => Some((9, Joint::Binary(BinaryOp::Greater))),
-        Sign::GreaterEq => Some((9, Joint::Binary(BinaryOp::GreaterEq))),
-        Sign::ShiftLeft => Some((10, Joint::Binary(BinaryOp::Shl))),
-        Sign::ShiftRight => Some((10, Joint::Binary(BinaryOp::Shr))),
-        Sign::Plus => Some((11, Joint::Binary(BinaryOp::Add))),
-        Sign::Minus => Some((11, Joint::Binary(BinaryOp::Sub))),
-        Sign::Star => Some((12, Joint::Binary(BinaryOp::Mul))),
-        Sign::Slash => Some((12, Joint::Binary(BinaryOp::Div))),
-        Sign::Percent => Some((12, Joint::Binary(BinaryOp::Rem))),
+        Sign::OrOr => Some((3, Infix::Logic(false))),
+        Sign::AndAnd => Some((4, Infix::Logic(true))),
+        Sign::Bar => Some((5, Infix::Binary(BinaryOp::Or))),
+        Sign::Caret => Some((6, Infix::Binary(BinaryOp::Xor))),
+        Sign::Ampersand => Some((7, Infix::Binary(BinaryOp::And))),
+        Sign::EqualEqual => Some((8, Infix::Binary(BinaryOp::Equal))),
+        Sign::NotEqual => Some((8, Infix::Binary(BinaryOp::NotEqual))),
+        Sign::Less => Some((9, Infix::Binary(BinaryOp::Less))),
+        Sign::LessEq => Some((9, Infix::Binary(BinaryOp::LessEq))),
+        Sign::Greater => Some((9, Infix::Binary(BinaryOp::Greater))),
+        Sign::GreaterEq => Some((9, Infix::Binary(BinaryOp::GreaterEq))),
+        Sign::ShiftLeft => Some((10, Infix::Binary(BinaryOp::Shl))),
+        Sign::ShiftRight => Some((10, Infix::Binary(BinaryOp::Shr))),
+        Sign::Plus => Some((11, Infix::Binary(BinaryOp::Add))),
+        Sign::Minus => Some((11, Infix::Binary(BinaryOp::Sub))),
+        Sign::Star => Some((12, Infix::Binary(BinaryOp::Mul))),
+        Sign::Slash => Some((12, Infix::Binary(BinaryOp::Div))),
+        Sign::Percent => Some((12, Infix::Binary(BinaryOp::Rem))),
         _ => None,
     }
 }

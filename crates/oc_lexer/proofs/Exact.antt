@@ -17,7 +17,7 @@ use Rattle.oc_lexer.specs.Numbers.{literal_of}
 use Rattle.oc_lexer.specs.Literals.{elements_text}
 use Rattle.oc_lexer.specs.Directives.{Includes, Defines}
 use Rattle.oc_lexer.specs.Pieces.{Piece, Comment, Lexeme, IsRun, SpellsCharacter, SpellsText, Spelled, SpellsPiece}
-use Rattle.oc_lexer.specs.Reading.{body_length, comment_length, sign_at, character_at, quoted, include_length, define_at, cut_of, cut_at, directive_of, defined_piece, lexeme_of_length}
+use Rattle.oc_lexer.specs.Reading.{body_length, comment_length, sign_at, character_at, quoted, include_length, define_at, piece_by, piece_at, directive_of, defined_piece, lexeme_of_length}
 use Rattle.oc_lexer.proofs.Runs.{run-append-after, run_all, after_longest, run_is}
 use Rattle.oc_lexer.proofs.Openings.{told}
 use Rattle.oc_lexer.proofs.Longest.{sign_some, sign_found, sign_spelled}
@@ -134,16 +134,16 @@ directive_front text (Some n) e =
     record { front = i.front; rest = i.rest; whole = i.whole; size = i.size; some = include_some n i.front i.rest i.size i.includes; spelled = inl (refl, i.includes) }
 directive_front text None e = define_front text (define_at text) refl
 
-block_front : (b : ℕ) (more : List ℕ) → (nat_eq b 47 && begins_with (λ c. nat_eq c 42) more) ≡ true → At k.BlockComment (b ∷ more) (cut_of k.BlockComment (b ∷ more))
+block_front : (b : ℕ) (more : List ℕ) → (nat_eq b 47 && begins_with (λ c. nat_eq c 42) more) ≡ true → At k.BlockComment (b ∷ more) (piece_by k.BlockComment (b ∷ more))
 unfolding comment_length
 block_front b [] h = absurd (false≢true (sym (and_false (nat_eq b 47)) ∙ h))
 block_front b (c ∷ more) h =
     let p = and_parts (nat_eq b 47) (nat_eq c 42) h in
-    subst (λ x. At k.BlockComment (x ∷ c ∷ more) (cut_of k.BlockComment (x ∷ c ∷ more))) (sym (eq_from b 47 p.0))
-    (subst (λ x. At k.BlockComment (47 ∷ x ∷ more) (cut_of k.BlockComment (47 ∷ x ∷ more))) (sym (eq_from c 42 p.1)) (comment_front more (body_length more) refl))
+    subst (λ x. At k.BlockComment (x ∷ c ∷ more) (piece_by k.BlockComment (x ∷ c ∷ more))) (sym (eq_from b 47 p.0))
+    (subst (λ x. At k.BlockComment (47 ∷ x ∷ more) (piece_by k.BlockComment (47 ∷ x ∷ more))) (sym (eq_from c 42 p.1)) (comment_front more (body_length more) refl))
 
 -- a text that opens so
-front_at : (kind : Kind) (is_fresh : Bool) (b : ℕ) (more : List ℕ) → kind_at is_fresh (b ∷ more) ≡ kind → At kind (b ∷ more) (cut_of kind (b ∷ more))
+front_at : (kind : Kind) (is_fresh : Bool) (b : ℕ) (more : List ℕ) → kind_at is_fresh (b ∷ more) ≡ kind → At kind (b ∷ more) (piece_by kind (b ∷ more))
 unfolding comment_length
 front_at k.Blank is_fresh b more e = record { front = b ∷ []; rest = more; whole = refl; size = refl; some = omega arith; spelled = (refl, refl) }
 front_at k.LineComment is_fresh b more e =
@@ -154,10 +154,10 @@ front_at k.Directive is_fresh b more e = directive_front (b ∷ more) (include_l
 front_at k.Word is_fresh b more e = run_front k.Word is_name_byte _ (b ∷ more) (run_some is_name_byte b more (name_start b (told is_fresh b more k.Word e))) (λ r. (refl, r))
 front_at k.Number is_fresh b more e = number_front (b ∷ more) (literal_of (run (is_in class.Number) (b ∷ more))) refl (run_some (is_in class.Number) b more (digit_number b (told is_fresh b more k.Number e)))
 front_at k.Character is_fresh b more e = character_front (b ∷ more) (character_at (b ∷ more)) refl (eq_from b 39 (told is_fresh b more k.Character e))
-front_at k.Text is_fresh b more e = subst (λ x. At k.Text (x ∷ more) (cut_of k.Text (x ∷ more))) (sym (eq_from b 34 (told is_fresh b more k.Text e))) (text_front more (quoted more) refl)
+front_at k.Text is_fresh b more e = subst (λ x. At k.Text (x ∷ more) (piece_by k.Text (x ∷ more))) (sym (eq_from b 34 (told is_fresh b more k.Text e))) (text_front more (quoted more) refl)
 front_at k.Sign is_fresh b more e = sign_front (b ∷ more) (sign_at (b ∷ more)) refl
 
-pub front_of : (is_fresh : Bool) (text : List ℕ) (piece : Piece) (n : ℕ) → (text ≡ [] → ⊥) → cut_at is_fresh text ≡ Some (piece, n) → Front (kind_at is_fresh text) piece n text
+pub front_of : (is_fresh : Bool) (text : List ℕ) (piece : Piece) (n : ℕ) → (text ≡ [] → ⊥) → piece_at is_fresh text ≡ Some (piece, n) → Front (kind_at is_fresh text) piece n text
 front_of is_fresh [] piece n some e = absurd (some refl)
 front_of is_fresh (b ∷ more) piece n some e = subst (At (kind_at is_fresh (b ∷ more)) (b ∷ more)) e (front_at (kind_at is_fresh (b ∷ more)) is_fresh b more refl)
 
@@ -180,7 +180,7 @@ text_spelled bytes text rest s =
       omega arith,
     )
 
-spelled_at : (kind : Kind) (piece : Piece) (text rest : List ℕ) → Spelled kind piece text rest → cut_of kind (text ++ rest) ≡ Some (piece, length text)
+spelled_at : (kind : Kind) (piece : Piece) (text rest : List ℕ) → Spelled kind piece text rest → piece_by kind (text ++ rest) ≡ Some (piece, length text)
 unfolding comment_length
 spelled_at k.Blank piece text rest s = ap (λ p. let o : Option (Piece × ℕ) = Some (p, 1) in o) (sym s.0) ∙ ap (λ n. Some (piece, n)) (sym s.1)
 spelled_at k.LineComment piece text rest s = ap (λ x. let o : Option (Piece × ℕ) = Some (Comment, length x) in o) (run_is (is_in class.Line) text rest s.1.all s.1.longest) ∙ ap (λ p. Some (p, length text)) (sym s.0)
@@ -202,5 +202,5 @@ spelled_at k.Text piece text rest (bytes, is, s) =
 spelled_at k.Sign piece text rest (s, is, h) =
     ap (option_map (λ s. let p : Piece × ℕ = (Lexeme (t.Sign s), length (sign_text s)) in p)) (sign_spelled s text rest h) ∙ ap (λ n. Some (Lexeme (t.Sign s), n)) (sym (ap length h.spelled)) ∙ ap (λ p. Some (p, length text)) (sym is)
 
-pub spelled_of : (is_fresh : Bool) (piece : Piece) (text rest : List ℕ) → SpellsPiece is_fresh piece text rest → cut_at is_fresh (text ++ rest) ≡ Some (piece, length text)
+pub spelled_of : (is_fresh : Bool) (piece : Piece) (text rest : List ℕ) → SpellsPiece is_fresh piece text rest → piece_at is_fresh (text ++ rest) ≡ Some (piece, length text)
 spelled_of is_fresh piece text rest s = spelled_at (kind_at is_fresh (text ++ rest)) piece text rest s

@@ -30,7 +30,7 @@ use Rattle.oc_lexer.specs.Moving.{place_of, stepped, passed, token_between}
 use Rattle.oc_lexer.specs.Pieces.{Piece, Blank, Comment, Include, Define, Lexeme, Spelled, SpellsPiece}
 use Rattle.oc_lexer.specs.Sources.{Definitions, defined, with_piece, is_new, is_new_by, Laid, laid, AreLaid, definitions, token_by, replaced_by, number_or_name, tokens_of, Spells, rule_of, IsStuck, Stops, Refuses}
 use Rattle.oc_lexer.specs.Known.{Knows, get_at, known_after, filtered}
-use Rattle.oc_lexer.specs.Reading.{cut_at, sign_at}
+use Rattle.oc_lexer.specs.Reading.{piece_at, sign_at}
 
 -- ---- the piece at the front of a text
 
@@ -40,7 +40,7 @@ pub record Fronts (is_fresh : Bool) (piece : Piece) (n : ℕ) (text : List ℕ) 
   pub some : 1 ≤ n
   pub spells : SpellsPiece is_fresh piece (take n text) (drop n text)
 
-pub fronts : (is_fresh : Bool) (piece : Piece) (n : ℕ) (text : List ℕ) → (text ≡ [] → ⊥) → cut_at is_fresh text ≡ Some (piece, n) → Fronts is_fresh piece n text
+pub fronts : (is_fresh : Bool) (piece : Piece) (n : ℕ) (text : List ℕ) → (text ≡ [] → ⊥) → piece_at is_fresh text ≡ Some (piece, n) → Fronts is_fresh piece n text
 fronts is_fresh piece n text some e =
     let f = front_of is_fresh text piece n some e in
     let s = split_is n text f.front f.rest f.whole f.size in
@@ -52,17 +52,17 @@ fronts is_fresh piece n text some e =
           (subst (λ x. Spelled (kind_at is_fresh (take n text ++ drop n text)) piece f.front x) (sym s.rest_is) (subst (λ x. Spelled (kind_at is_fresh x) piece f.front f.rest) (sym (take-append-drop n text)) f.spelled));
     }
 
-nothing_cut : (is_fresh : Bool) → cut_at is_fresh [] ≡ None
+no_piece : (is_fresh : Bool) → piece_at is_fresh [] ≡ None
 unfolding kind_at sign_at
-nothing_cut is_fresh = refl
+no_piece is_fresh = refl
 
-nothing_spelled : (is_fresh : Bool) (text : List ℕ) (piece : Piece) (n : ℕ) → cut_at is_fresh text ≡ Some (piece, n) → text ≡ [] → ⊥
+nothing_spelled : (is_fresh : Bool) (text : List ℕ) (piece : Piece) (n : ℕ) → piece_at is_fresh text ≡ Some (piece, n) → text ≡ [] → ⊥
 nothing_spelled is_fresh text piece n e empty =
-    let h : (let o : Option (Piece × ℕ) = None in o) ≡ Some (piece, n) = sym (nothing_cut is_fresh) ∙ ap (cut_at is_fresh) (sym empty) ∙ e in
+    let h : (let o : Option (Piece × ℕ) = None in o) ≡ Some (piece, n) = sym (no_piece is_fresh) ∙ ap (piece_at is_fresh) (sym empty) ∙ e in
     cc
 
-pub spelled_cut : (is_fresh : Bool) (piece : Piece) (text rest : List ℕ) → SpellsPiece is_fresh piece text rest → (cut_at is_fresh (text ++ rest) ≡ Some (piece, length text)) × (text ++ rest ≡ [] → ⊥)
-spelled_cut is_fresh piece text rest s = let e = spelled_of is_fresh piece text rest s in (e, nothing_spelled is_fresh (text ++ rest) piece (length text) e)
+pub spelled_piece : (is_fresh : Bool) (piece : Piece) (text rest : List ℕ) → SpellsPiece is_fresh piece text rest → (piece_at is_fresh (text ++ rest) ≡ Some (piece, length text)) × (text ++ rest ≡ [] → ⊥)
+spelled_piece is_fresh piece text rest s = let e = spelled_of is_fresh piece text rest s in (e, nothing_spelled is_fresh (text ++ rest) piece (length text) e)
 
 first : Option (Piece × ℕ) → Piece
 first None = Blank
@@ -76,9 +76,9 @@ second (Some p) = p.1
 pub same_piece : (is_fresh : Bool) (p q : Piece) (x y r s : List ℕ) → SpellsPiece is_fresh p x r → SpellsPiece is_fresh q y s → x ++ r ≡ y ++ s → (p ≡ q) × (x ≡ y) × (r ≡ s)
 unfolding first second
 same_piece is_fresh p q x y r s hp hq e =
-    let a = (spelled_cut is_fresh p x r hp).0 in
-    let b = (spelled_cut is_fresh q y s hq).0 in
-    let both : Some (p, length x) ≡ Some (q, length y) = sym a ∙ ap (cut_at is_fresh) e ∙ b in
+    let a = (spelled_piece is_fresh p x r hp).0 in
+    let b = (spelled_piece is_fresh q y s hq).0 in
+    let both : Some (p, length x) ≡ Some (q, length y) = sym a ∙ ap (piece_at is_fresh) e ∙ b in
     let piece : p ≡ q = ap first both in
     let size : length x ≡ length y = ap second both in
     let text : x ≡ y = sym (take_front x r) ∙ ap (take (length x)) e ∙ ap (λ n. take n (y ++ s)) size ∙ take_front y s in
@@ -118,7 +118,7 @@ tokens_push front ds (m ∷ ms) l =
 -- ---- there is one walk
 
 pub stuck_end : (front : List ℕ) (ds : Definitions) → IsStuck front ds []
-stuck_end front ds = λ piece spelling rest e spells new. (spelled_cut (is_fresh_after front) piece spelling rest spells).1 (sym e)
+stuck_end front ds = λ piece spelling rest e spells new. (spelled_piece (is_fresh_after front) piece spelling rest spells).1 (sym e)
 
 same_laid : (p q : Laid) → p.piece ≡ q.piece → p.text ≡ q.text → p ≡ q
 same_laid p q e f = ap (λ x. let l : Laid = record { piece = x; text = p.text } in l) e ∙ ap (λ x. let l : Laid = record { piece = q.piece; text = x } in l) f
@@ -184,9 +184,9 @@ filtered_none known o piece n e is new =
     let b : filtered known (Some (piece, n)) ≡ Some (piece, n) = ap (λ b. cond b (Some (piece, n)) None) new in
     cc
 
-pub stuck : (m : BTreeMap (Bor (List ℕ)) Literal) (ds : Definitions) (front text : List ℕ) → Knows m ds → filtered (get_at m) (cut_at (is_fresh_after front) text) ≡ None → IsStuck front ds text
+pub stuck : (m : BTreeMap (Bor (List ℕ)) Literal) (ds : Definitions) (front text : List ℕ) → Knows m ds → filtered (get_at m) (piece_at (is_fresh_after front) text) ≡ None → IsStuck front ds text
 stuck m ds front text knows e = λ piece spelling rest is spells new.
-    filtered_none (get_at m) (cut_at (is_fresh_after front) text) piece (length spelling) e (ap (cut_at (is_fresh_after front)) is ∙ (spelled_cut (is_fresh_after front) piece spelling rest spells).0) (alike_new (get_at m) ds piece knows ∙ new)
+    filtered_none (get_at m) (piece_at (is_fresh_after front) text) piece (length spelling) e (ap (piece_at (is_fresh_after front)) is ∙ (spelled_piece (is_fresh_after front) piece spelling rest spells).0) (alike_new (get_at m) ds piece knows ∙ new)
 
 -- ---- places
 
@@ -267,14 +267,14 @@ walked_start source known tokens small empty none = record {
 }
 
 pub walked_more : (source rest text after : List ℕ) (place next : Place) (known more : BTreeMap (Bor (List ℕ)) Literal) (tokens longer : List Token) (piece : Piece) (n : ℕ) → Walked source rest place known tokens
-    → filtered (get_at known) (cut_at place.is_fresh rest) ≡ Some (piece, n) → Fronts place.is_fresh piece n rest → text ≡ take n rest → after ≡ drop n rest → next ≡ passed place text
+    → filtered (get_at known) (piece_at place.is_fresh rest) ≡ Some (piece, n) → Fronts place.is_fresh piece n rest → text ≡ take n rest → after ≡ drop n rest → next ≡ passed place text
     → ((name : List ℕ) → get_at more name ≡ known_after (get_at known) piece name) → longer ≡ tokens ++ token_between (get_at known) place next piece
     → Walked source after next more longer
 walked_more source rest text after place next known more tokens longer piece n w found at_front front back is learns adds =
     let l : Laid = record { piece = piece; text = text } in
     let ds = definitions [] w.pieces in
     let before = laid w.pieces in
-    let f = filtered_some (get_at known) (cut_at place.is_fresh rest) piece n found in
+    let f = filtered_some (get_at known) (piece_at place.is_fresh rest) piece n found in
     let whole : rest ≡ text ++ after = sym (take-append-drop n rest) ∙ ap (λ t. t ++ drop n rest) (sym front) ∙ ap (λ t. text ++ t) (sym back) in
     let spells : SpellsPiece place.is_fresh piece text after = subst (λ t. SpellsPiece place.is_fresh piece t after) (sym front) (subst (λ t. SpellsPiece place.is_fresh piece (take n rest) t) (sym back) at_front.spells) in
     let there : next ≡ place_of (before ++ text) = is ∙ ap (λ p. passed p text) w.at ∙ passed_is before text in
@@ -333,12 +333,12 @@ module _ {source rest : List ℕ} {place : Place} {known : BTreeMap (Bor (List �
 
 -- ---- a source at whose rest no piece can start
 
-module _ {source rest : List ℕ} {place : Place} {known : BTreeMap (Bor (List ℕ)) Literal} {tokens : List Token} (w : Walked source rest place known tokens) (some : rest ≡ [] → ⊥) (none : filtered (get_at known) (cut_at place.is_fresh rest) ≡ None) where
+module _ {source rest : List ℕ} {place : Place} {known : BTreeMap (Bor (List ℕ)) Literal} {tokens : List Token} (w : Walked source rest place known tokens) (some : rest ≡ [] → ⊥) (none : filtered (get_at known) (piece_at place.is_fresh rest) ≡ None) where
   fresh : place.is_fresh ≡ is_fresh_after (laid w.pieces)
   fresh = ap (λ (p : Place). p.is_fresh) w.at
 
   stuck_here : IsStuck (laid w.pieces) (definitions [] w.pieces) rest
-  stuck_here = stuck known (definitions [] w.pieces) (laid w.pieces) rest w.knows (ap (λ f. filtered (get_at known) (cut_at f rest)) (sym fresh) ∙ none)
+  stuck_here = stuck known (definitions [] w.pieces) (laid w.pieces) rest w.knows (ap (λ f. filtered (get_at known) (piece_at f rest)) (sym fresh) ∙ none)
 
   stopped : Stops source (rule_of (kind_at place.is_fresh rest) rest) place.spot
   stopped = record {

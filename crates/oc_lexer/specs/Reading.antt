@@ -7,8 +7,8 @@ use Rattle.oc_lexer.specs.declared.kinds.Kind.{Kind}
 use Rattle.oc_lexer.specs.declared.kinds.Kind.TheVariants as k
 use Rattle.oc_lexer.specs.declared.token.Sign.{Sign}
 use Rattle.oc_lexer.specs.declared.token.TokenKind.TheVariants as t
-use Rattle.oc_lexer.specs.declared.cuts.Cut.{Cut}
-use Rattle.oc_lexer.specs.declared.cuts.Cut.TheVariants as cut
+use Rattle.oc_lexer.specs.declared.pieces.Piece.{Piece as ReadPiece}
+use Rattle.oc_lexer.specs.declared.pieces.Piece.TheVariants as read
 use Rattle.oc_lexer.specs.Bytes.{is_in, is_space, is_name_start, is_name_byte, begins_with, run, after}
 use Rattle.oc_lexer.specs.Kinds.{kind_at}
 use Rattle.oc_lexer.specs.Comments.{ends_line}
@@ -127,12 +127,12 @@ define_at text = if starts_with nat_eq text (codes "#define") then define_after 
 
 -- ---- pieces
 
-abbrev pub piece_of : Cut → Piece
-piece_of cut.Blank = Blank
-piece_of cut.Comment = Comment
-piece_of cut.Include = Include
-piece_of (cut.Define name literal) = Define name.now literal
-piece_of (cut.Lexeme kind) = Lexeme kind
+abbrev pub piece_of : ReadPiece → Piece
+piece_of read.Blank = Blank
+piece_of read.Comment = Comment
+piece_of read.Include = Include
+piece_of (read.Define name literal) = Define name.now literal
+piece_of (read.Lexeme kind) = Lexeme kind
 
 abbrev pub lexeme_of_length : ℕ → Option Literal → Option (Piece × ℕ)
 lexeme_of_length n (Some literal) = Some (Lexeme (t.Number literal), n)
@@ -146,16 +146,16 @@ directive_of (Some n) text = Some (Include, n)
 directive_of None text = defined_piece (define_at text)
 
 -- the piece that begins so, and how many bytes it has
-abbrev pub cut_of : Kind → List ℕ → Option (Piece × ℕ)
-cut_of k.Blank text = Some (Blank, 1)
-cut_of k.LineComment text = Some (Comment, length (run (is_in class.Line) text))
-cut_of k.BlockComment text = option_map (λ n. (Comment, n)) (comment_length text)
-cut_of k.Directive text = directive_of (include_length text) text
-cut_of k.Word text = Some (Lexeme (word_kind (keyword_of (run is_name_byte text)) (run is_name_byte text)), length (run is_name_byte text))
-cut_of k.Number text = lexeme_of_length (length (run (is_in class.Number) text)) (literal_of (run (is_in class.Number) text))
-cut_of k.Character text = option_map (λ c. (Lexeme (t.Character c.0), c.1)) (character_at text)
-cut_of k.Text text = option_map (λ c. (Lexeme (t.Text c.0), c.1 + 1)) (quoted (drop 1 text))
-cut_of k.Sign text = option_map (λ s. (Lexeme (t.Sign s), length (sign_text s))) (sign_at text)
+abbrev pub piece_by : Kind → List ℕ → Option (Piece × ℕ)
+piece_by k.Blank text = Some (Blank, 1)
+piece_by k.LineComment text = Some (Comment, length (run (is_in class.Line) text))
+piece_by k.BlockComment text = option_map (λ n. (Comment, n)) (comment_length text)
+piece_by k.Directive text = directive_of (include_length text) text
+piece_by k.Word text = Some (Lexeme (word_kind (keyword_of (run is_name_byte text)) (run is_name_byte text)), length (run is_name_byte text))
+piece_by k.Number text = lexeme_of_length (length (run (is_in class.Number) text)) (literal_of (run (is_in class.Number) text))
+piece_by k.Character text = option_map (λ c. (Lexeme (t.Character c.0), c.1)) (character_at text)
+piece_by k.Text text = option_map (λ c. (Lexeme (t.Text c.0), c.1 + 1)) (quoted (drop 1 text))
+piece_by k.Sign text = option_map (λ s. (Lexeme (t.Sign s), length (sign_text s))) (sign_at text)
 
-abbrev pub cut_at : Bool → List ℕ → Option (Piece × ℕ)
-cut_at is_fresh text = cut_of (kind_at is_fresh text) text
+abbrev pub piece_at : Bool → List ℕ → Option (Piece × ℕ)
+piece_at is_fresh text = piece_by (kind_at is_fresh text) text

@@ -9,14 +9,14 @@ ghost use Rattle.oc_lexer.specs.Moving.{token_between};
 ghost use Rattle.oc_lexer.specs.Places.{spot_after};
 ghost use Rattle.oc_lexer.specs.Kinds.{kind_at};
 ghost use Rattle.oc_lexer.specs.Known.{filtered, get_at, known_after};
-ghost use Rattle.oc_lexer.specs.Reading.{cut_at, piece_of};
+ghost use Rattle.oc_lexer.specs.Reading.{piece_at, piece_of};
 ghost use Rattle.oc_lexer.specs.Sources.{Refuses, Spells, is_new_by, rule_of};
 
 use crate::bytes::{ByteClass, split_run};
-use crate::cuts::{Cut, next_cut};
 use crate::defines::{define, find, replaced};
 use crate::kinds::{Kind, kind_at};
 use crate::numbers::suffix_of;
+use crate::pieces::{Piece, piece_at};
 use crate::places::{Place, START, passed};
 use crate::token::{LexFault, LexRule, Lexed, Token};
 use oc_tree::Literal;
@@ -47,12 +47,12 @@ fn rule_at(is_fresh: bool, text: &[u8]) -> LexRule
 }
 
 /// Whether the name of a `#define` is new.
-fn is_new(known: &BTreeMap<&[u8], Literal>, cut: &Cut<'_>) -> bool
-    ensures { result ≡ is_new_by (get_at known.now) (piece_of cut.now) }
+fn is_new(known: &BTreeMap<&[u8], Literal>, piece: &Piece<'_>) -> bool
+    ensures { result ≡ is_new_by (get_at known.now) (piece_of piece.now) }
 {
-    match cut {
-        Cut::Define { name, .. } => find(known, name).is_none(),
-        Cut::Blank | Cut::Comment | Cut::Include | Cut::Lexeme(_) => true,
+    match piece {
+        Piece::Define { name, .. } => find(known, name).is_none(),
+        Piece::Blank | Piece::Comment | Piece::Include | Piece::Lexeme(_) => true,
     }
 }
 
@@ -62,15 +62,15 @@ fn next_piece<'s>(
     known: &BTreeMap<&'s [u8], Literal>,
     is_fresh: bool,
     text: &'s [u8],
-) -> Result<Option<(Cut<'s>, usize)>, NoMemory>
+) -> Result<Option<(Piece<'s>, usize)>, NoMemory>
     requires { 0 < length text.now }
-    ensures { IfOk result (λ found. option_map (λ r. (piece_of r.0, r.1)) found ≡ filtered (get_at known.now) (cut_at is_fresh text.now)) }
+    ensures { IfOk result (λ found. option_map (λ r. (piece_of r.0, r.1)) found ≡ filtered (get_at known.now) (piece_at is_fresh text.now)) }
 {
-    let Some((cut, length)) = next_cut(alloc, is_fresh, text)? else {
+    let Some((piece, length)) = piece_at(alloc, is_fresh, text)? else {
         return Ok(None);
     };
-    if is_new(known, &cut) {
-        Ok(Some((cut, length)))
+    if is_new(known, &piece) {
+        Ok(Some((piece, length)))
     } else {
         Ok(None)
     }
@@ -80,16 +80,16 @@ fn next_piece<'s>(
 fn take_piece<'s>(
     known: &mut BTreeMap<&'s [u8], Literal>,
     tokens: &mut Items<Token>,
-    cut: Cut<'s>,
+    piece: Piece<'s>,
     from: Place,
     to: Place,
 ) -> Result<(), NoMemory>
-    ensures known { OnOk result ((name : List ℕ) → get_at known.new name ≡ known_after (get_at known.old) (piece_of cut.entry) name) }
-    ensures tokens { OnOk result (tokens.new ≡ tokens.old ++ token_between (get_at known.old) from to (piece_of cut.entry)) }
+    ensures known { OnOk result ((name : List ℕ) → get_at known.new name ≡ known_after (get_at known.old) (piece_of piece.entry) name) }
+    ensures tokens { OnOk result (tokens.new ≡ tokens.old ++ token_between (get_at known.old) from to (piece_of piece.entry)) }
 {
-    match cut {
-        Cut::Define { name, literal } => define(known, name, literal),
-        Cut::Lexeme(kind) => {
+    match piece {
+        Piece::Define { name, literal } => define(known, name, literal),
+        Piece::Lexeme(kind) => {
             let token = Token {
                 kind: replaced(known, kind),
                 from: from.at,
@@ -99,7 +99,7 @@ fn take_piece<'s>(
             tokens.push(token)?;
             Ok(())
         }
-        Cut::Blank | Cut::Comment | Cut::Include => Ok(()),
+        Piece::Blank | Piece::Comment | Piece::Include => Ok(()),
     }
 }
 
@@ -130,7 +130,7 @@ pub fn lex(alloc: Global, source: &[u8]) -> Result<Lexed, LexFault>
     let mut place = START;
     let mut rest = source;
     while !rest.is_empty() {
-        let Some((cut, length)) = next_piece(alloc, &known, place.is_fresh, rest)? else {
+        let Some((piece, length)) = next_piece(alloc, &known, place.is_fresh, rest)? else {
             return Err(LexFault::Refused {
                 rule: rule_at(place.is_fresh, rest),
                 spot: place.spot,
@@ -138,7 +138,7 @@ pub fn lex(alloc: Global, source: &[u8]) -> Result<Lexed, LexFault>
         };
         let (text, after) = rest.split_at(length);
         let next = passed(place, text);
-        take_piece(&mut known, &mut tokens, cut, place, next)?;
+        take_piece(&mut known, &mut tokens, piece, place, next)?;
         place = next;
         rest = after;
     }

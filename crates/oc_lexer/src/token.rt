@@ -130,6 +130,7 @@ pub enum Sign {
     ShiftRightAssign,
 }
 
+/// What a token is, and what it stands for.
 #[derive(Debug, Drop)]
 pub enum TokenKind {
     /// A name that no `#define` before it names.
@@ -164,17 +165,22 @@ pub struct Lexed {
 /// Why a source has no tokens.
 #[derive(Clone, Copy, Debug, PartialEq, Eq)]
 pub enum LexRule {
-    /// A byte that starts no token, or a text or character literal that has not its form: at that byte.
+    /// A byte that starts no token, or a character or text literal that has not its form: at that byte.
+    /// Leave the byte out; close the literal on its line, and write a newline in it as `\n`; put a directive
+    /// on a line of its own.
     L1,
-    /// A comment that isn't closed: at its start.
+    /// A comment that isn't closed: at its start. Write `*/` where it ends; comments don't nest.
     L2,
-    /// A digit that starts no number: at the digit.
+    /// A digit that starts no number: at the digit. Write whole numbers, octal ones without 8 and 9, with a
+    /// suffix of `u` and `l` or `ll` if any, and put a blank before a name.
     L3,
-    /// A number that no kind holds: at its start.
+    /// A number that no kind holds: at its start. Write one below 2^63, or below 2^64 with `u`, in octal or in
+    /// hexadecimal.
     L4,
-    /// A directive that isn't accepted: at its `#`.
+    /// A directive that isn't accepted: at its `#`. Include one of the four headers, or define a new name as a
+    /// number alone; leave other directives out.
     L5,
-    /// A source of more than 1,048,576 bytes: at 1:1.
+    /// A source of more than 1,048,576 bytes: at 1:1. Make it shorter.
     L6,
 }
 

@@ -15,6 +15,7 @@ use Rattle.oc_parser.specs.Places.{spot_from, place_spot}
 use Rattle.oc_parser.specs.Load.{IsLight, HeavyAt}
 use Rattle.oc_parser.specs.Refusals.{Refuses}
 use Rattle.oc_parser.specs.Programs.{program_of, Whole, whole, AtEnd}
+use Rattle.oc_parser.specs.Trees.{IsTree}
 use Rattle.oc_parser.proofs.Loads.{drop_front}
 use Rattle.oc_parser.proofs.Faulty.{is_fault, same_fault, spelled_no_fault, one_fault}
 
@@ -31,6 +32,13 @@ parts_of (whole d) = (program d, refl)
 
 -- ---- a tree
 
+-- equal parts give an equal program
+same_program : (p q : Program) → p.structs ≡ q.structs → p.functions ≡ q.functions → p.end ≡ q.end → p ≡ q
+same_program p q structs functions end =
+    ap {B = Program} (λ s. record { structs = s; functions = p.functions; end = p.end }) structs
+    ∙ ap {B = Program} (λ f. record { structs = q.structs; functions = f; end = p.end }) functions
+    ∙ ap {B = Program} (λ e. record { structs = q.structs; functions = q.functions; end = e }) end
+
 module _ {end : Spot} {ts : List Token} {p : Program} (f : Found (Whole end) AtEnd ts p []) where
   all_read : f.front ≡ ts
   all_read = sym (f.whole ∙ append-nil f.front)
@@ -38,14 +46,21 @@ module _ {end : Spot} {ts : List Token} {p : Program} (f : Found (Whole end) AtE
   pub tree_derives : Derives p ts
   tree_derives = subst (λ x. Derives p x) all_read (parts_of f.derives).0
 
-  pub tree_end : p.end ≡ end
+  tree_end : p.end ≡ end
   tree_end = (parts_of f.derives).1
 
-  pub tree_only : (other : Program) → Derives other ts → (other.structs ≡ p.structs) × (other.functions ≡ p.functions)
-  tree_only other (program d) =
+  same_parts : (other : Program) → Derives other ts → (other.structs ≡ p.structs) × (other.functions ≡ p.functions)
+  same_parts other (program d) =
       let w : Whole end (program_of other.structs other.functions end) ts = whole d in
       let e = (f.only [] ts [] (program_of other.structs other.functions end) refl w refl (ap (λ x. x ++ []) all_read)).0 in
       (ap (λ (p : Program). p.structs) e, ap (λ (p : Program). p.functions) e)
+
+module _ (lexed : Lexed) {p : Program} (f : Found (Whole lexed.end) AtEnd lexed.tokens p []) where
+  pub is_tree : IsTree lexed p
+  is_tree = record { spelled = tree_derives f; end = tree_end f }
+
+  pub one_tree : (other : Program) → IsTree lexed other → other ≡ p
+  one_tree other t = let parts = same_parts f other t.spelled in same_program other p parts.0 parts.1 (t.end ∙ sym (tree_end f))
 
 -- ---- a refusal
 

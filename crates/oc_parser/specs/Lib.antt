@@ -1,5 +1,6 @@
 pub mod Places
 pub mod Load
 pub mod Refusals
+pub mod Trees
 pub mod Programs
 pub mod Stacks

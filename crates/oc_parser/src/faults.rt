@@ -7,9 +7,10 @@ use oc_values::NoMemory;
 #[derive(Clone, Copy, Debug, PartialEq, Eq)]
 pub enum ParseRule {
     /// Tokens that spell no program: at the first token such that no program begins with the tokens up to
-    /// it, or at the end of the source.
+    /// it, or at the end of the source. Remove this token, or write before it what is missing.
     G1,
-    /// Tokens that nest too deep: at the first token whose load is over 1,000.
+    /// Tokens that nest too deep: at the first token whose load is over 1,000. Close brackets and blocks
+    /// earlier, split a long expression or chain of `else`, or move a part into a function.
     G2,
 }
 

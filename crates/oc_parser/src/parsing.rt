@@ -7,6 +7,7 @@ ghost use Rattle.oc_grammar.specs.Headings.{Derives};
 ghost use Rattle.oc_parser.specs.declared.faults.ParseRule.{ParseRule};
 ghost use Rattle.oc_parser.specs.Load.{IsLight};
 ghost use Rattle.oc_parser.specs.Refusals.{Refuses, IfRefused};
+ghost use Rattle.oc_parser.specs.Trees.{IsTree};
 
 use crate::faults::{ParseFault, ParseRule};
 use crate::load::first_heavy;
@@ -19,10 +20,9 @@ use std::alloc::Global;
 /// The tree of a source.
 pub fn parse(alloc: Global, lexed: &Lexed) -> Result<Program, ParseFault>
     // The tokens spell the tree, and it ends where the source does.
-    ensures derives { IfOk result (λ program. Derives program lexed.now.tokens) }
-    ensures end { IfOk result (λ program. program.end ≡ lexed.now.end) }
-    // They spell no other tree, no load is too large, and no rule refuses them.
-    ensures only { IfOk result (λ program. (other : Program) → Derives other lexed.now.tokens → (other.structs ≡ program.structs) × (other.functions ≡ program.functions)) }
+    ensures tree { IfOk result (λ program. IsTree lexed.now program) }
+    // There is no other tree, no load is too large, and no rule refuses the tokens.
+    ensures only { IfOk result (λ program. (other : Program) → IsTree lexed.now other → other ≡ program) }
     ensures light { IfOk result (λ program. IsLight lexed.now.tokens) }
     ensures accepted { IfOk result (λ program. (rule : ParseRule) (spot : Spot) → Refuses lexed.now rule spot → ⊥) }
 

@@ -253,6 +253,90 @@ const LOADS: [(&[u8], &[u8], &[u8], &[u8], u32, &[u8], &str); 18] = [
     (b"}", b"}{", b"", b"", 1001, b"", "G1 1:1"),
 ];
 
+// The deepest sources of each kind: the greatest count that is accepted, and one more.
+const DEEPEST: [(&[u8], &[u8], &[u8], &[u8], u32, &[u8], &str); 40] = [
+    (b"void f(){", b"{", b"", b"}", 994, b"}", "a tree"),
+    (b"void f(){", b"{", b"", b"}", 995, b"}", "G2 1:1005"),
+    (b"void f(){", b"- ", b"a", b"", 993, b";}", "a tree"),
+    (b"void f(){", b"- ", b"a", b"", 994, b";}", "G2 1:1999"),
+    (b"void f(){", b"(int)", b"a", b"", 331, b";}", "a tree"),
+    (b"void f(){", b"(int)", b"a", b"", 332, b";}", "G2 1:1669"),
+    (b"void f(){", b"(", b"a", b")", 496, b";}", "a tree"),
+    (b"void f(){", b"(", b"a", b")", 497, b";}", "G2 1:1005"),
+    (b"void f(){", b"a(", b"", b")", 331, b";}", "a tree"),
+    (b"void f(){", b"a(", b"", b")", 332, b";}", "G2 1:1005"),
+    (b"void f(){", b"a[", b"a", b"]", 331, b";}", "a tree"),
+    (b"void f(){", b"a[", b"a", b"]", 332, b";}", "G2 1:1005"),
+    (b"void f(){a", b"[1]", b"", b"", 331, b";}", "a tree"),
+    (b"void f(){a", b"[1]", b"", b"", 332, b";}", "G2 1:1005"),
+    (b"void f(){", b"a+", b"a", b"", 496, b";}", "a tree"),
+    (b"void f(){", b"a+", b"a", b"", 497, b";}", "G2 1:1005"),
+    (b"void f(){", b"a=", b"a", b"", 496, b";}", "a tree"),
+    (b"void f(){", b"a=", b"a", b"", 497, b";}", "G2 1:1005"),
+    (b"void f(){", b"a?a:", b"a", b"", 248, b";}", "a tree"),
+    (b"void f(){", b"a?a:", b"a", b"", 249, b";}", "G2 1:1005"),
+    (b"void f(){", b"a?", b"a", b":a", 248, b";}", "a tree"),
+    (b"void f(){", b"a?", b"a", b":a", 249, b";}", "G2 1:1005"),
+    (b"void f(){int ", b"*", b"a", b"", 992, b";}", "a tree"),
+    (b"void f(){int ", b"*", b"a", b"", 993, b";}", "G2 1:1008"),
+    (b"void f(){int a", b"[1]", b"", b"", 330, b";}", "a tree"),
+    (b"void f(){int a", b"[1]", b"", b"", 331, b";}", "G2 1:1008"),
+    (b"void f(){", b"if(a)", b"", b"", 248, b";}", "a tree"),
+    (b"void f(){", b"if(a)", b"", b"", 249, b";}", "G2 1:1254"),
+    (b"void f(){", b"while(a)", b"", b"", 248, b";}", "a tree"),
+    (b"void f(){", b"while(a)", b"", b"", 249, b";}", "G2 1:2001"),
+    (b"void f(){", b"for(;;)", b"", b"", 198, b";}", "a tree"),
+    (b"void f(){", b"for(;;)", b"", b"", 199, b";}", "G2 1:1403"),
+    (b"void f(){", b"if(a);else ", b"", b"", 165, b";}", "a tree"),
+    (
+        b"void f(){",
+        b"if(a);else ",
+        b"",
+        b"",
+        166,
+        b";}",
+        "G2 1:1831",
+    ),
+    (b"void f(){", b"if(a)", b";", b"else;", 165, b"}", "a tree"),
+    (
+        b"void f(){",
+        b"if(a)",
+        b";",
+        b"else;",
+        166,
+        b"}",
+        "G2 1:1666",
+    ),
+    (
+        b"void f(){",
+        b"obliv if(a){",
+        b"",
+        b"}",
+        165,
+        b"}",
+        "a tree",
+    ),
+    (
+        b"void f(){",
+        b"obliv if(a){",
+        b"",
+        b"}",
+        166,
+        b"}",
+        "G2 1:2001",
+    ),
+    (b"void f(){", b"~obliv(a){", b"", b"}", 165, b"}", "a tree"),
+    (
+        b"void f(){",
+        b"~obliv(a){",
+        b"",
+        b"}",
+        166,
+        b"}",
+        "G2 1:1669",
+    ),
+];
+
 // ---- trees as text
 
 fn name_text(alloc: Global, name: &Name) -> Result<String, AllocError> {
@@ -554,6 +638,15 @@ fn program_text(alloc: Global, program: &Program) -> Result<String, AllocError> 
     Ok(text)
 }
 
+fn fault_text(alloc: Global, fault: &ParseFault) -> Result<String, AllocError> {
+    match fault {
+        ParseFault::Refused { rule, spot } => {
+            format!(in alloc; "{rule:?} {}:{}", spot.line, spot.column)
+        }
+        ParseFault::NoMemory => format!(in alloc; "memory"),
+    }
+}
+
 // The tree of a source, or its refusal.
 fn shown(alloc: Global, source: &[u8]) -> Result<String, AllocError> {
     let Ok(lexed) = lex(alloc, source) else {
@@ -561,10 +654,7 @@ fn shown(alloc: Global, source: &[u8]) -> Result<String, AllocError> {
     };
     match parse(alloc, &lexed) {
         Ok(program) => program_text(alloc, &program),
-        Err(ParseFault::Refused { rule, spot }) => {
-            format!(in alloc; "{rule:?} {}:{}", spot.line, spot.column)
-        }
-        Err(ParseFault::NoMemory) => format!(in alloc; "memory"),
+        Err(fault) => fault_text(alloc, &fault),
     }
 }
 
@@ -600,18 +690,38 @@ fn repeat(source: &mut Vec<u8>, part: &[u8], count: u32) -> Result<(), AllocErro
     Ok(())
 }
 
-#[test]
-fn loads(rt: HostRuntime) -> Result<(), Fail> {
-    let alloc = rt.alloc();
-    for (front, left, middle, right, count, back, expected) in LOADS {
+// That a source has a tree, or its refusal.
+fn outcome(alloc: Global, source: &[u8]) -> Result<String, AllocError> {
+    let Ok(lexed) = lex(alloc, source) else {
+        return format!(in alloc; "no tokens");
+    };
+    match parse(alloc, &lexed) {
+        Ok(_) => format!(in alloc; "a tree"),
+        Err(fault) => fault_text(alloc, &fault),
+    }
+}
+
+fn check_loads(
+    rt: &impl Abort,
+    alloc: Global,
+    rows: &[(&[u8], &[u8], &[u8], &[u8], u32, &[u8], &str)],
+) -> Result<(), AllocError> {
+    for (front, left, middle, right, count, back, expected) in rows {
         let mut source = Vec::new(alloc);
         source.extend_from_slice(front)?;
-        repeat(&mut source, left, count)?;
+        repeat(&mut source, left, *count)?;
         source.extend_from_slice(middle)?;
-        repeat(&mut source, right, count)?;
+        repeat(&mut source, right, *count)?;
         source.extend_from_slice(back)?;
-        let text = shown(alloc, source.as_slice())?;
-        assert_eq!(rt; text.as_str(), expected, "{left:?}");
+        let text = outcome(alloc, source.as_slice())?;
+        assert_eq!(rt; text.as_str(), *expected, "{left:?}");
     }
+    Ok(())
+}
+
+#[test]
+fn loads(rt: HostRuntime) -> Result<(), Fail> {
+    check_loads(&rt, rt.alloc(), &LOADS)?;
+    check_loads(&rt, rt.alloc(), &DEEPEST)?;
     Ok(())
 }

@@ -33,6 +33,6 @@ returns-in-Ok-None c =
     let is : IsLexed c.args.source.now c.in-Ok.lexed = record { spelled = c.in-Ok.ensures.spelled; end = c.in-Ok.ensures.end } in
     subst (λ s. ReadsTree c.args.source.now (Err s)) (sym c.refused-in-Ok-None.ensures)
     (form_refuses c.args.source.now c.in-Ok.lexed is c.in-Ok.ensures.only c.in-Ok-parse.program
-    (parsed c.args.source.now c.in-Ok.lexed is c.in-Ok.ensures.only c.in-Ok-parse.program c.in-Ok-parse.ensures.light c.in-Ok-parse.ensures.derives c.in-Ok-parse.ensures.end)
-    c.in-Ok-parse.ensures.end c.in-Ok-parse.ensures.only
+    (parsed c.args.source.now c.in-Ok.lexed is c.in-Ok.ensures.only c.in-Ok-parse.program c.in-Ok-parse.ensures.light c.in-Ok-parse.ensures.tree)
+    c.in-Ok-parse.ensures.only
     (subst (λ o. IfNone o ((t : Typed) → First c.in-Ok-parse.program t → ⊥)) c.in-Ok-None.field-0-is c.in-Ok-None.ensures.none))

@@ -87,7 +87,7 @@ unary-returns-in_err-left-in-None-prefix_next-clause-reads t c = error_on _ _ _ 
 pub unary-returns-in_ok-left-in-None-prefix_next-clause-reads : goal.unary-returns-in_ok-left-in-None-prefix_next-clause-reads
 unary-returns-in_ok-left-in-None-prefix_next-clause-reads t c =
     let l = turn.plain_read c.in-None.ensures c.in-None-prefix_next.ensures c.in_ok-left-in-None-prefix_next.ensures.reads in
-    mapped _ _ _ _ _ _ _ (rw c.next_spot-spot.ensures at c.posts.ensures.reads) (λ v r f. through l f) (λ r f. through_fails l f)
+    mapped _ _ _ _ _ _ _ (rw c.next_spot-spot.ensures at c.postfixes.ensures.reads) (λ v r f. through l f) (λ r f. through_fails l f)
 
 pub parens-returns-in_err-to-clause-reads : goal.parens-returns-in_err-to-clause-reads
 parens-returns-in_err-to-clause-reads t c = error_on _ _ _ _ _ _ _ _ c.from_residual.ensures.1 c.in_err-to.ensures.reads (λ rest f. turn.type_fails _ (c.begins_type.ensures.0 c.if-begins_type.true) f)
@@ -104,39 +104,39 @@ parens-returns-in_err-inner-clause-reads t c = error_on _ _ _ _ _ _ _ _ c.from_r
 pub parens-returns-clause-reads : goal.parens-returns-clause-reads
 parens-returns-clause-reads t c =
     let l = turn.inner_read _ (λ b. let h = c.begins_type.ensures.1 b in let g = c.if-begins_type.false in cc) c.in_ok-inner.ensures.reads in
-    mapped _ _ _ _ _ _ _ c.posts.ensures.reads (λ v r f. through l f) (λ r f. through_fails l f)
+    mapped _ _ _ _ _ _ _ c.postfixes.ensures.reads (λ v r f. through l f) (λ r f. through_fails l f)
 
 -- ---- what stands after
 
-pub posts-returns-in_err-more-clause-reads : goal.posts-returns-in_err-more-clause-reads
-posts-returns-in_err-more-clause-reads t c = error_on _ _ _ _ _ _ _ _ c.from_residual.ensures.1 c.in_err-more.ensures.reads (λ rest f. turn.posted_fails c.loop-post.invariant.reads c.in-Some.ensures f)
+pub postfixes-returns-in_err-more-clause-reads : goal.postfixes-returns-in_err-more-clause-reads
+postfixes-returns-in_err-more-clause-reads t c = error_on _ _ _ _ _ _ _ _ c.from_residual.ensures.1 c.in_err-more.ensures.reads (λ rest f. turn.postfixed_fails c.loop-postfix.invariant.reads c.in-Some.ensures f)
 
-pub posts-loop-post-preserved : goal.posts-loop-post-preserved
-posts-loop-post-preserved t c = record { reads = turn.posted_read c.loop-post.invariant.reads c.in-Some.ensures c.in_ok-more.ensures.reads; shorter = omega (arith, ap length c.in-Some.ensures.whole, c.in_ok-more.ensures.shorter, c.loop-post.invariant.shorter) }
+pub postfixes-loop-postfix-preserved : goal.postfixes-loop-postfix-preserved
+postfixes-loop-postfix-preserved t c = record { reads = turn.postfixed_read c.loop-postfix.invariant.reads c.in-Some.ensures c.in_ok-more.ensures.reads; shorter = omega (arith, ap length c.in-Some.ensures.whole, c.in_ok-more.ensures.shorter, c.loop-postfix.invariant.shorter) }
 
-pub posts-returns-clause-reads : goal.posts-returns-clause-reads
-posts-returns-clause-reads t c = turn.posts_done c.loop-post.invariant.reads c.in_default.ensures
+pub postfixes-returns-clause-reads : goal.postfixes-returns-clause-reads
+postfixes-returns-clause-reads t c = turn.postfixes_done c.loop-postfix.invariant.reads c.in_default.ensures
 
-pub posted-returns-in_err-amount-in-Index-clause-reads : goal.posted-returns-in_err-amount-in-Index-clause-reads
-posted-returns-in_err-amount-in-Index-clause-reads t c = rw c.in-Index.is (error_on _ _ _ _ _ _ _ _ c.from_residual.ensures.1 c.in_err-amount-in-Index.ensures.reads (λ rest f. turn.index_fails _ _ f))
+pub postfixed-returns-in_err-amount-in-Index-clause-reads : goal.postfixed-returns-in_err-amount-in-Index-clause-reads
+postfixed-returns-in_err-amount-in-Index-clause-reads t c = rw c.in-Index.is (error_on _ _ _ _ _ _ _ _ c.from_residual.ensures.1 c.in_err-amount-in-Index.ensures.reads (λ rest f. turn.index_fails _ _ f))
 
-pub posted-returns-in_ok-boxed-in-Index-clause-reads : goal.posted-returns-in_ok-boxed-in-Index-clause-reads
-posted-returns-in_ok-boxed-in-Index-clause-reads t c = rw (c.in-Index.is, c.in_ok-boxed-in-Index.ensures) (turn.index_read _ _ c.in_ok-amount-in-Index.ensures.reads)
+pub postfixed-returns-in_ok-boxed-in-Index-clause-reads : goal.postfixed-returns-in_ok-boxed-in-Index-clause-reads
+postfixed-returns-in_ok-boxed-in-Index-clause-reads t c = rw (c.in-Index.is, c.in_ok-boxed-in-Index.ensures) (turn.index_read _ _ c.in_ok-amount-in-Index.ensures.reads)
 
-pub posted-returns-in_err-named-in-Field-clause-reads : goal.posted-returns-in_err-named-in-Field-clause-reads
-posted-returns-in_err-named-in-Field-clause-reads t c = rw c.in-Field.is (error_on _ _ _ _ _ _ _ _ c.from_residual-in_err-named-in-Field.ensures.1 c.in_err-named-in-Field.ensures.reads (λ rest f. turn.field_fails _ _ f))
+pub postfixed-returns-in_err-named-in-Field-clause-reads : goal.postfixed-returns-in_err-named-in-Field-clause-reads
+postfixed-returns-in_err-named-in-Field-clause-reads t c = rw c.in-Field.is (error_on _ _ _ _ _ _ _ _ c.from_residual-in_err-named-in-Field.ensures.1 c.in_err-named-in-Field.ensures.reads (λ rest f. turn.field_fails _ _ f))
 
-pub posted-returns-in_ok-boxed-in-Field-clause-reads : goal.posted-returns-in_ok-boxed-in-Field-clause-reads
-posted-returns-in_ok-boxed-in-Field-clause-reads t c = rw (c.in-Field.is, c.in_ok-boxed-in-Field.ensures) (turn.field_read _ _ c.in_ok-named-in-Field.ensures.reads)
+pub postfixed-returns-in_ok-boxed-in-Field-clause-reads : goal.postfixed-returns-in_ok-boxed-in-Field-clause-reads
+postfixed-returns-in_ok-boxed-in-Field-clause-reads t c = rw (c.in-Field.is, c.in_ok-boxed-in-Field.ensures) (turn.field_read _ _ c.in_ok-named-in-Field.ensures.reads)
 
-pub posted-returns-in_err-named-in-Arrow-clause-reads : goal.posted-returns-in_err-named-in-Arrow-clause-reads
-posted-returns-in_err-named-in-Arrow-clause-reads t c = rw c.in-Arrow.is (error_on _ _ _ _ _ _ _ _ c.from_residual-in_err-named-in-Arrow.ensures.1 c.in_err-named-in-Arrow.ensures.reads (λ rest f. turn.arrow_fails _ _ f))
+pub postfixed-returns-in_err-named-in-Arrow-clause-reads : goal.postfixed-returns-in_err-named-in-Arrow-clause-reads
+postfixed-returns-in_err-named-in-Arrow-clause-reads t c = rw c.in-Arrow.is (error_on _ _ _ _ _ _ _ _ c.from_residual-in_err-named-in-Arrow.ensures.1 c.in_err-named-in-Arrow.ensures.reads (λ rest f. turn.arrow_fails _ _ f))
 
-pub posted-returns-in_ok-boxed-in-Arrow-clause-reads : goal.posted-returns-in_ok-boxed-in-Arrow-clause-reads
-posted-returns-in_ok-boxed-in-Arrow-clause-reads t c = rw (c.in-Arrow.is, c.in_ok-boxed-in-Arrow.ensures) (turn.arrow_read _ _ c.in_ok-named-in-Arrow.ensures.reads)
+pub postfixed-returns-in_ok-boxed-in-Arrow-clause-reads : goal.postfixed-returns-in_ok-boxed-in-Arrow-clause-reads
+postfixed-returns-in_ok-boxed-in-Arrow-clause-reads t c = rw (c.in-Arrow.is, c.in_ok-boxed-in-Arrow.ensures) (turn.arrow_read _ _ c.in_ok-named-in-Arrow.ensures.reads)
 
-pub posted-returns-in_ok-boxed-in-Bump-clause-reads : goal.posted-returns-in_ok-boxed-in-Bump-clause-reads
-posted-returns-in_ok-boxed-in-Bump-clause-reads t c = rw (c.in-Bump.is, c.in_ok-boxed-in-Bump.ensures) (turn.bump_read _ _ _)
+pub postfixed-returns-in_ok-boxed-in-Bump-clause-reads : goal.postfixed-returns-in_ok-boxed-in-Bump-clause-reads
+postfixed-returns-in_ok-boxed-in-Bump-clause-reads t c = rw (c.in-Bump.is, c.in_ok-boxed-in-Bump.ensures) (turn.bump_read _ _ _)
 
 -- ---- what stands alone
 

@@ -4,7 +4,7 @@ use Rattle.oc_grammar.specs.Tokens.{spot_at}
 use Rattle.oc_grammar.specs.WrittenTypes.{Commas}
 use Rattle.oc_grammar.specs.Expressions.{Expression, Ends}
 use Rattle.oc_grammar.proofs.Lists.{CommaStep}
-use Rattle.oc_expressions.specs.Parts.{Below, posts, ListEnds}
+use Rattle.oc_expressions.specs.Parts.{Below, postfixes, ListEnds}
 use Rattle.oc_expressions.proofs.Operators.{Rest}
 use Rattle.oc_expressions.proofs.expressions.+expr.Given as goal
 
@@ -32,11 +32,11 @@ decreases-listed l = 8 * length l.tokens.now + 5
 abbrev pub decreases-parens : goal.decreases-parens
 decreases-parens l = 8 * length l.tokens.now + 6
 
-abbrev pub decreases-posted : goal.decreases-posted
-decreases-posted l = 8 * length l.tokens.now + 6
+abbrev pub decreases-postfixed : goal.decreases-postfixed
+decreases-postfixed l = 8 * length l.tokens.now + 6
 
-abbrev pub decreases-posts : goal.decreases-posts
-decreases-posts l = 8 * length l.tokens.now
+abbrev pub decreases-postfixes : goal.decreases-postfixes
+decreases-postfixes l = 8 * length l.tokens.now
 
 abbrev pub decreases-primary : goal.decreases-primary
 decreases-primary l = 8 * length l.tokens.now
@@ -66,11 +66,11 @@ invariant-listed-loop-after l = record {
 abbrev pub decreases-listed-loop-after : goal.decreases-listed-loop-after
 decreases-listed-loop-after l = length l.rest
 
-abbrev pub invariant-posts-loop-post : goal.invariant-posts-loop-post
-invariant-posts-loop-post l = record {
-  reads : Leaves (posts l.spot l.fn.first) (Ends 13) l.tokens (posts l.spot l.left) l.rest;
+abbrev pub invariant-postfixes-loop-postfix : goal.invariant-postfixes-loop-postfix
+invariant-postfixes-loop-postfix l = record {
+  reads : Leaves (postfixes l.spot l.fn.first) (Ends 13) l.tokens (postfixes l.spot l.left) l.rest;
   shorter : length l.rest ≤ length l.tokens;
 }
 
-abbrev pub decreases-posts-loop-post : goal.decreases-posts-loop-post
-decreases-posts-loop-post l = length l.rest
+abbrev pub decreases-postfixes-loop-postfix : goal.decreases-postfixes-loop-postfix
+decreases-postfixes-loop-postfix l = length l.rest

@@ -32,5 +32,5 @@ returns c =
     let h = sym c.byte_at.ensures ∙ c.loop-rest-test.false in
     record {
       within = elim (within_or_past c.args.text.now c.loop-rest.at) [ inl lt ↦ omega arith | inr e ↦ absurd (zero_is_no_quote _ e h) ];
-      value = ap (λ b. Some (b, c.loop-rest.at + 1)) c.from_vec.ensures ∙ read_end c.loop-rest.bytes.items c.loop-rest.at c.args.text.now _ c.loop-rest.invariant h;
+      value = ap (λ b. Some (b, c.loop-rest.at + 1)) c.in_ok-from_vec.ensures ∙ read_end c.loop-rest.bytes.items c.loop-rest.at c.args.text.now _ c.loop-rest.invariant h;
     }

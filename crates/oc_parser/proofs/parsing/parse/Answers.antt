@@ -1,12 +1,12 @@
 use Rattle.oc_parser.specs.declared.faults.ParseRule.TheVariants.{G1}
-use Rattle.oc_parser.proofs.Answered.{tree_derives, tree_only, grammar_refuses, not_refused, one_refusal}
+use Rattle.oc_parser.proofs.Answered.{tree_derives, is_tree, one_tree, grammar_refuses, not_refused, one_refusal}
 use Rattle.oc_parser.proofs.parsing.parse.Goals as goal
 
-pub returns-in-Ok-clause-derives : goal.returns-in-Ok-clause-derives
-returns-in-Ok-clause-derives c = tree_derives (rw c.as_slice-tokens.ensures at c.in-Ok.ensures)
+pub returns-in-Ok-clause-tree : goal.returns-in-Ok-clause-tree
+returns-in-Ok-clause-tree c = is_tree c.args.lexed.now (rw c.as_slice-tokens.ensures at c.in-Ok.ensures)
 
 pub returns-in-Ok-clause-only : goal.returns-in-Ok-clause-only
-returns-in-Ok-clause-only c = tree_only (rw c.as_slice-tokens.ensures at c.in-Ok.ensures)
+returns-in-Ok-clause-only c = one_tree c.args.lexed.now (rw c.as_slice-tokens.ensures at c.in-Ok.ensures)
 
 pub returns-in-Ok-clause-accepted : goal.returns-in-Ok-clause-accepted
 returns-in-Ok-clause-accepted c = λ rule spot r. not_refused c.args.lexed.now c.in-Ok.program rule spot (tree_derives (rw c.as_slice-tokens.ensures at c.in-Ok.ensures)) (rw (c.in_default.is, c.as_slice-tokens.ensures) at c.in_ok-spot.ensures) r
