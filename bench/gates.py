@@ -5,8 +5,8 @@ Run it with the program that `rt run` built in crates/half_speed, on a machine t
 compiler, `cc`. A time is the least of five runs, less that of a run which does nothing.
 """
 
+import os
 import pathlib
-import resource
 import subprocess
 import sys
 import tempfile
@@ -17,40 +17,62 @@ PROGRAM = TOP / "crates" / "half_speed" / "out" / "half_speed"
 RUNS = 5
 LOW = 2**64 - 1
 
+# What is done, how often, what the table calls it, and how many blocks of SHA-256 it takes.
+WORK = [
+    ("digest", 2_000_000, "digest", 1),
+    ("hash", 2_000_000, "hash a label", 1),
+    ("garble", 500_000, "garble an AND", 4),
+    ("evaluate", 1_000_000, "evaluate an AND", 2),
+]
+
 
 def run(words):
+    words = [str(word) for word in words]
     start = time.perf_counter()
-    ran = subprocess.run([str(word) for word in words], capture_output=True, check=True)
-    return time.perf_counter() - start, ran.stdout.decode().strip()
+    with subprocess.Popen(words, stdout=subprocess.PIPE) as process:
+        found = process.stdout.read()
+        _, status, used = os.wait4(process.pid, 0)
+        process.returncode = status
+    if status:
+        sys.exit(f"{words}: status {status}")
+    return time.perf_counter() - start, int(found), used.ru_maxrss
 
 
 def least(program, what, number):
     idle = min(run([program, what, 0])[0] for _ in range(RUNS))
-    times, found = zip(*(run([program, what, number]) for _ in range(RUNS)))
-    return max(min(times) - idle, 1e-9), int(found[0])
+    times, found, _ = zip(*(run([program, what, number]) for _ in range(RUNS)))
+    return max(min(times) - idle, 1e-9), found[0]
 
 
 def rates(yardstick):
-    print("| Work | A second | In C | To C |\n|---|---|---|---|")
-    for what, number in [("digest", 2_000_000), ("hash", 2_000_000), ("garble", 500_000), ("evaluate", 1_000_000)]:
+    print("| Work | A second | In C | To C | Of the bound by `digest` |\n|---|---|---|---|---|")
+    for what, number, name, blocks in WORK:
         took, found = least(PROGRAM, what, number)
-        line = f"| {what} | {number / took / 1e6:.2f} million | "
+        # A block of SHA-256 is all the work of the yardstick's `hash`.
+        took_in_c, found_in_c = least(yardstick, "hash" if what == "digest" else what, number)
         if what == "digest":
-            print(line + "| |")
-            continue
-        took_in_c, found_in_c = least(yardstick, what, number)
-        if found & LOW != found_in_c:
-            sys.exit(f"{what}: another result in C")
-        print(line + f"{number / took_in_c / 1e6:.2f} million | {took_in_c / took:.2f} |")
+            block, bound = took / number, ""
+        else:
+            bound = f"{blocks * block / (took / number):.2f} "
+            if found & LOW != found_in_c:
+                sys.exit(f"{what}: another result in C")
+        rate, rate_in_c = (number / seconds / 1e6 for seconds in [took, took_in_c])
+        print(f"| {name} | {rate:.2f} million | {rate_in_c:.2f} million | {rate / rate_in_c:.2f} | {bound}|")
 
 
 def halves():
-    print("| Transfers | Deal | Write both | Read both |\n|---|---|---|---|")
+    print("| Transfers | Deal | Write both halves | Read both halves |\n|---|---|---|---|")
     for number in [262_144, 524_288, 1_048_576]:
-        deal, write, read = (least(PROGRAM, what, number)[0] for what in ["deal", "write", "read"])
-        print(f"| {number} | {deal * 1000:.0f} ms | {(write - deal) * 1000:.0f} ms | {(read - write) * 1000:.0f} ms |")
-    most = resource.getrusage(resource.RUSAGE_CHILDREN).ru_maxrss / 1024
-    print(f"\nMost memory of a run that holds both halves, both files and both halves again: {most:.0f} MiB")
+        deal, write, read = (least(PROGRAM, what, number)[0] * 1000 for what in ["deal", "write", "read"])
+        print(f"| {number:,} | {deal:.0f} ms | {write - deal:.0f} ms | {read - write:.0f} ms |")
+    size = run([PROGRAM, "write_sender", number])[1] / 2**20
+    print(f"\nThe sender's file of {number:,} transfers has {size:.0f} MiB. Most memory of a run that")
+    for what, task in [
+        ("write_sender", "deals, and writes that file of its half alone"),
+        ("read_sender", "goes on to read that file alone"),
+        ("read", "holds both halves, both files and both halves again"),
+    ]:
+        print(f"- {task}: {run([PROGRAM, what, number])[2] / 1024:.0f} MiB")
 
 
 def main():

@@ -8,7 +8,7 @@ use Rattle.rand_chacha.specs.ChaCha.{key_of}
 use Rattle.dealt_transfer.specs.declared.half.SenderHalf.{SenderHalf}
 use Rattle.dealt_transfer.specs.Halves.{Receiver}
 use Rattle.dealt_transfer.specs.Dealing.{chosen, pair_at, bit_at, pad_at, sender_dealt, receiver_dealt}
-use Rattle.dealt_transfer.specs.Transfers.{Match, pads_of, bit_of, pad_of, turned, sent_bit, masked}
+use Rattle.dealt_transfer.specs.Transfers.{Match, pads_of, bit_of, pad_of, turned, sent_bit, masked_pair}
 
 xor_back : (m p : ℕ) → bit_xor (bit_xor m p) p ≡ m
 xor_back m p = xor_assoc m p p ∙ ap (λ (n : ℕ). bit_xor m n) (xor_self p) ∙ xor_zero_r m
@@ -22,12 +22,12 @@ opens_at pads false true m0 m1 = xor_back m1 pads.0
 opens_at pads false false m0 m1 = xor_back m0 pads.0
 
 pub opens : (sender : SenderHalf) (receiver : Receiver) (i : ℕ) (choice : Bool) (e0 e1 m0 m1 : ℕ) (pair : ℕ × ℕ) → pair ≡ (e0, e1) → Match sender receiver → i < length receiver.pads
-    → pair ≡ masked sender i (sent_bit receiver i choice) m0 m1
+    → pair ≡ masked_pair sender i (sent_bit receiver i choice) m0 m1
     → bit_xor (chosen (e0, e1) choice) (pad_of receiver i) ≡ (if choice then m1 else m0)
 opens sender receiver i choice e0 e1 m0 m1 pair given h lt e =
     let pad : pad_of receiver i ≡ chosen (pads_of sender i) (bit_of receiver i) = h.pads i (let c = h.count in omega (arith, c)) in
     ap (λ (q : ℕ × ℕ). bit_xor (chosen q choice) (pad_of receiver i)) (sym given ∙ e)
-    ∙ ap (λ (p : ℕ). bit_xor (chosen (masked sender i (sent_bit receiver i choice) m0 m1) choice) p) pad
+    ∙ ap (λ (p : ℕ). bit_xor (chosen (masked_pair sender i (sent_bit receiver i choice) m0 m1) choice) p) pad
     ∙ opens_at (pads_of sender i) (bit_of receiver i) choice m0 m1
 
 -- dealt halves match

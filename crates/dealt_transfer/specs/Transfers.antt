@@ -40,8 +40,8 @@ abbrev pub sent_bit : Receiver → ℕ → Bool → Bool
 sent_bit half i choice = turned choice (bit_of half i)
 
 -- what the sender sends for two messages, by the bit that came
-abbrev pub masked : SenderHalf → ℕ → Bool → ℕ → ℕ → ℕ × ℕ
-masked half i d m0 m1 = (bit_xor m0 (chosen (pads_of half i) d), bit_xor m1 (chosen (pads_of half i) (not d)))
+abbrev pub masked_pair : SenderHalf → ℕ → Bool → ℕ → ℕ → ℕ × ℕ
+masked_pair half i d m0 m1 = (bit_xor m0 (chosen (pads_of half i) d), bit_xor m1 (chosen (pads_of half i) (not d)))
 
 -- what the receiver takes out of the pair that came
 abbrev pub opened : Receiver → ℕ → Bool → ℕ → ℕ → ℕ

@@ -98,7 +98,8 @@ fn deal_transfers(alloc: Global, rng: &mut ChaCha20Rng, count: u32) -> Result<De
     Ok(Dealt { pairs, bits, pads })
 }
 
-/// Both halves of so many transfers, from a key. They match.
+/// Both halves of so many transfers, from the words of the ChaCha20 key stream 0 of a key (RFC 8439 has the block
+/// function; the block counter has 64 bits here, as has the nonce). They match.
 pub fn deal(
     alloc: Global,
     key: &[u8; 32],

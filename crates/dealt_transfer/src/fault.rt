@@ -14,7 +14,7 @@ pub enum HalfRule {
     H2,
     /// The file is too short or too long, or counts more than 1,048,576 transfers.
     H3,
-    /// A bit stands behind the last one.
+    /// A bit behind the last one, in the same byte, is 1.
     H4,
 }
 
@@ -23,6 +23,7 @@ pub enum HalfRule {
 pub enum HalfFault {
     /// The first fault of the file's form, and the byte at which it is.
     Form { rule: HalfRule, offset: u64 },
+    /// Want of memory, which no clause ties to a cause.
     NoMemory,
 }
 

@@ -12,10 +12,11 @@ pub type Fault = (HalfRule, u64);
 /// How many transfers a half has at most.
 const MOST: u32 = 1_048_576;
 
-/// Where the number of transfers stands in a sender's file, and in a receiver's.
-pub const SENDER_COUNT: usize = 53;
+/// Where the number of transfers stands in a sender's file.
+pub const SENDER_COUNT_OFFSET: usize = 53;
 
-pub const RECEIVER_COUNT: usize = 21;
+/// Where it stands in a receiver's.
+pub const RECEIVER_COUNT_OFFSET: usize = 21;
 
 /// How many bytes so many bits take.
 pub fn byte_count(bits: usize) -> usize
@@ -94,10 +95,10 @@ fn bits_fault(bytes: &[u8], bits: usize, at: usize) -> Option<Fault>
 pub fn sender_fault(bytes: &[u8]) -> Option<Fault>
     ensures { result ≡ fault_of_sender bytes.now }
 {
-    if let Some(fault) = opening_fault(bytes, b"OCHG", SENDER_COUNT) {
+    if let Some(fault) = opening_fault(bytes, b"OCHG", SENDER_COUNT_OFFSET) {
         return Some(fault);
     }
-    let count = count_at(bytes, SENDER_COUNT) as usize;
+    let count = count_at(bytes, SENDER_COUNT_OFFSET) as usize;
     size_fault(bytes, 57 + 32 * count)
 }
 
@@ -105,10 +106,10 @@ pub fn sender_fault(bytes: &[u8]) -> Option<Fault>
 pub fn receiver_fault(bytes: &[u8]) -> Option<Fault>
     ensures { result ≡ fault_of_receiver bytes.now }
 {
-    if let Some(fault) = opening_fault(bytes, b"OCHE", RECEIVER_COUNT) {
+    if let Some(fault) = opening_fault(bytes, b"OCHE", RECEIVER_COUNT_OFFSET) {
         return Some(fault);
     }
-    let count = count_at(bytes, RECEIVER_COUNT) as usize;
+    let count = count_at(bytes, RECEIVER_COUNT_OFFSET) as usize;
     if let Some(fault) = bits_fault(bytes, count, 25) {
         return Some(fault);
     }

@@ -10,7 +10,9 @@ use oc_values::Items;
 pub struct SenderHalf {
     /// The same in both halves.
     pub tag: [u8; 16],
+    /// The key that the sender's labels are made from.
     pub coin_key: [u8; 32],
+    /// Of each transfer the pad of the bit 0, and then that of the bit 1.
     pub pads: Items<(Label, Label)>,
 }
 
@@ -19,7 +21,9 @@ pub struct SenderHalf {
 pub struct ReceiverHalf {
     /// The same in both halves.
     pub tag: [u8; 16],
+    /// The bit of each transfer.
     pub bits: Items<bool>,
+    /// Of each transfer the sender's pad of its bit.
     pub pads: Items<Label>,
     ghost one_length: { length bits ≡ length pads },
 }

@@ -12,7 +12,7 @@ ghost use Rattle.dealt_transfer.specs.Reading.{Gives, ReadsReceiver, ReadsSender
 
 use crate::fault::HalfFault;
 use crate::form::{
-    RECEIVER_COUNT, SENDER_COUNT, byte_count, count_at, receiver_fault, sender_fault,
+    RECEIVER_COUNT_OFFSET, SENDER_COUNT_OFFSET, byte_count, count_at, receiver_fault, sender_fault,
 };
 use crate::half::{ReceiverHalf, SenderHalf};
 use half_gates::Label;
@@ -116,7 +116,7 @@ pub fn read_sender_half(alloc: Global, bytes: &[u8]) -> Result<SenderHalf, HalfF
     if let Some((rule, offset)) = sender_fault(bytes) {
         return Err(HalfFault::Form { rule, offset });
     }
-    let count = count_at(bytes, SENDER_COUNT) as usize;
+    let count = count_at(bytes, SENDER_COUNT_OFFSET) as usize;
     Ok(SenderHalf {
         tag: sixteen_at(bytes, 5),
         coin_key: thirty_two_at(bytes, 21),
@@ -133,7 +133,7 @@ pub fn read_receiver_half(alloc: Global, bytes: &[u8]) -> Result<ReceiverHalf, H
     if let Some((rule, offset)) = receiver_fault(bytes) {
         return Err(HalfFault::Form { rule, offset });
     }
-    let count = count_at(bytes, RECEIVER_COUNT) as usize;
+    let count = count_at(bytes, RECEIVER_COUNT_OFFSET) as usize;
     let bits = read_bits(alloc, bytes, 25, count)?;
     let pads = read_labels(alloc, bytes, 25 + byte_count(count), count)?;
     Ok(ReceiverHalf {

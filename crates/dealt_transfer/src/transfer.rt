@@ -3,7 +3,7 @@
 ghost use Rattle.std.specs.Prelude.{◌≡◌, ◌<◌, ◌≤◌, ℕ, MatchOption, length, if◌then◌else◌};
 ghost use Rattle.dealt_transfer.specs.declared.half.SenderHalf.{SenderHalf as Sender};
 ghost use Rattle.dealt_transfer.specs.Halves.{most, receiver as receiver_of};
-ghost use Rattle.dealt_transfer.specs.Transfers.{FirstUnmatched, Match, masked, opened, sent_bit};
+ghost use Rattle.dealt_transfer.specs.Transfers.{FirstUnmatched, Match, masked_pair, opened, sent_bit};
 
 use crate::dealing::chosen;
 use crate::half::{ReceiverHalf, SenderHalf};
@@ -20,7 +20,7 @@ pub fn choice_bit(half: &ReceiverHalf, i: u32, choice: bool) -> bool
 /// What the sender sends for two messages of the transfer `i`, by the bit `d` that came.
 pub fn mask_pair(half: &SenderHalf, i: u32, d: bool, m0: Label, m1: Label) -> (Label, Label)
     requires { i < length half.now.pads }
-    ensures { result ≡ masked half.now i d m0 m1 }
+    ensures { result ≡ masked_pair half.now i d m0 m1 }
 {
     let pads = half.pads.as_slice()[i as usize];
     (m0 ^ chosen(pads, d), m1 ^ chosen(pads, !d))
@@ -32,7 +32,7 @@ pub fn open_pair(half: &ReceiverHalf, i: u32, choice: bool, e0: Label, e1: Label
     ensures message { result ≡ opened (receiver_of half.now) i choice e0 e1 }
     // It is the chosen one of the sender's messages, where the halves match and the pair is the sender's answer.
     ensures opens { (sender : Sender) (m0 m1 : ℕ) → Match sender (receiver_of half.now)
-        → (e0, e1) ≡ masked sender i (sent_bit (receiver_of half.now) i choice) m0 m1
+        → (e0, e1) ≡ masked_pair sender i (sent_bit (receiver_of half.now) i choice) m0 m1
         → result ≡ (if choice then m1 else m0) }
 {
     chosen((e0, e1), choice) ^ half.pads.as_slice()[i as usize]

@@ -9,6 +9,7 @@ use dealt_transfer::{
     HalfFault, deal, read_receiver_half, read_sender_half, write_receiver_half, write_sender_half,
 };
 use half_gates::{Label, eval_and, garble_and, hash_label};
+use oc_values::Items;
 use sha2::{Digest, Sha256};
 use std::alloc::Global;
 use std::{env, io};
@@ -80,6 +81,25 @@ fn halves(alloc: Global, count: u32, written: bool, read: bool) -> Result<usize,
     Ok(sender_again.pads.len().min(receiver_again.pads.len()))
 }
 
+/// The file of the sender's half, which alone is left.
+fn sender_file(alloc: Global, count: u32) -> Result<Items<u8>, HalfFault>
+    requires { count ≤ most }
+{
+    let (sender, _) = deal(alloc, &[7; 32], count)?;
+    Ok(write_sender_half(alloc, &sender)?)
+}
+
+/// Deals, goes on with the sender's half alone to write it, and with its file alone to read it again.
+fn sender_half(alloc: Global, count: u32, read: bool) -> Result<usize, HalfFault>
+    requires { count ≤ most }
+{
+    let file = sender_file(alloc, count)?;
+    if !read {
+        return Ok(file.len());
+    }
+    Ok(read_sender_half(alloc, file.as_slice())?.pads.len())
+}
+
 /// What the words ask for, or none where they ask for nothing.
 fn work(alloc: Global, what: &str, count: u32) -> Option<u128> {
     match what {
@@ -89,6 +109,11 @@ fn work(alloc: Global, what: &str, count: u32) -> Option<u128> {
         "evaluate" => Some(evaluate(count)),
         "deal" | "write" | "read" if count <= MOST => {
             halves(alloc, count, what != "deal", what == "read")
+                .ok()
+                .map(|n| n as u128)
+        }
+        "write_sender" | "read_sender" if count <= MOST => {
+            sender_half(alloc, count, what == "read_sender")
                 .ok()
                 .map(|n| n as u128)
         }
@@ -107,6 +132,8 @@ fn main(rt: HostRuntime) -> io::Result<()> {
         println!(rt; "{found}")?;
         return Ok(());
     }
-    println!(rt; "half_speed hash|digest|garble|evaluate|deal|write|read NUMBER")?;
+    println!(rt;
+        "half_speed hash|digest|garble|evaluate|deal|write|read|write_sender|read_sender NUMBER"
+    )?;
     Ok(())
 }

@@ -8,11 +8,11 @@ use Rattle.std.proofs.lemmas.Bool.{false≢true}
 use Rattle.std.specs.Option.{unwrap_or}
 use Rattle.std.proofs.lemmas.List.{append-nil}
 use Rattle.oblivc_main.specs.Words.{IsCommand, IsClear, IsClearCommand, Usage, UsageOf, Breaks}
-use Rattle.oblivc_main.specs.DealWords.{Deal, IsDeal, IsDealCommand}
+use Rattle.oblivc_main.specs.DealWords.{DealAsked, IsDeal, IsDealCommand}
 use Rattle.oblivc_main.specs.DealEndings.{DealEnds, Makes, IsFileOf}
 use Rattle.oblivc_main.specs.Lines.{usage_line}
 use Rattle.oblivc_main.specs.Endings.{Output, Ends}
-use Rattle.oblivc_main.specs.Statuses.{Call, files_of, writing_of, DealAnswered, Answered, done, refused, usage, unread, wrong_input, without_memory, unwritten, Said, line_of, status_of, deal_line_of, deal_status_of}
+use Rattle.oblivc_main.specs.Statuses.{Call, files_of, writing_of, DealAnswered, Answered, done, refused, usage, file_fault, wrong_input, without_memory, unwritten, Said, line_of, status_of, deal_line_of, deal_status_of}
 use Rattle.oblivc_main.specs.declared.stop.Stop.{Stop}
 use Rattle.oblivc_main.specs.declared.stop.Stop.TheVariants.{Refused, Unread, WrongInput, Unwritten, NoMemory}
 use Rattle.oblivc_main.specs.declared.deal.DealStop.{DealStop}
@@ -49,7 +49,7 @@ module _ (c : Call) (source first second : List ℕ) (clear : IsClear c.words so
   stopped : (stop : Stop) (status : ℕ) → Ends (files_of c source first second) c.out (Err stop) → Said c.err (line_of source first second stop) (status_of stop) status → Answered c status
   stopped (Refused r) status e (inl said) = refused said.0 ((source, first, second, clear, (r, e.0, said.1)), e.1)
   stopped (Refused r) status e (inr none) = without_memory none (inl e.1)
-  stopped (Unread which) status e (inl said) = unread said.0 (inl (source, first, second, clear, (which, e.0, said.1)), e.1)
+  stopped (Unread which) status e (inl said) = file_fault said.0 (inl (source, first, second, clear, (which, e.0, said.1)), e.1)
   stopped (Unread which) status e (inr none) = without_memory none (inl e.1)
   stopped (WrongInput which) status e (inl said) = wrong_input said.0 ((source, first, second, clear, (which, e.0)), e.1, said.1)
   stopped (WrongInput which) status e (inr none) = without_memory none (inl e.1)
@@ -113,18 +113,18 @@ clear_usage ws k head u = record {
     no_command xs h never (inr c) = h (deal_first xs c)
 
 -- `deal` ended, and said why if that was before its end
-pub by_deal : (c : Call) (d : Deal) (status : ℕ) → IsDeal c.words d → c.out.after ≡ c.out.before → DealAnswered (writing_of c) c.err d status → Answered c status
+pub by_deal : (c : Call) (d : DealAsked) (status : ℕ) → IsDeal c.words d → c.out.after ≡ c.out.before → DealAnswered (writing_of c) c.err d status → Answered c status
 by_deal c d status words same (inl e) = done e.0 (inr ((d, words, e.1), same), e.2)
 by_deal c d status words same (inr e) = ended e.0 e.1 e.2
   where
     ended : (stop : DealStop) → DealEnds (writing_of c) d (Err stop) → Said c.err (deal_line_of d stop) (deal_status_of stop) status → Answered c status
-    ended (DealUnwritten file) cause (inl said) = unread said.0 (inr (d, words, (file, cause, said.1)), same)
+    ended (DealUnwritten file) cause (inl said) = file_fault said.0 (inr (d, words, (file, cause, said.1)), same)
     ended (DealUnwritten file) cause (inr none) = without_memory none (inl same)
     ended DealNoMemory cause (inl said) = without_memory said.0 (inl same)
     ended DealNoMemory cause (inr none) = without_memory none (inl same)
 
 -- what `deal` leaves is what the words don't make
-pub deal_keeps : (words : List (List ℕ)) (d : Deal) (before after : Told) → IsDeal words d → ((n : List ℕ) → (IsFileOf d n → ⊥) → after n ≡ before n) → (n : List ℕ) → (Makes words n → ⊥) → after n ≡ before n
+pub deal_keeps : (words : List (List ℕ)) (d : DealAsked) (before after : Told) → IsDeal words d → ((n : List ℕ) → (IsFileOf d n → ⊥) → after n ≡ before n) → (n : List ℕ) → (Makes words n → ⊥) → after n ≡ before n
 deal_keeps words d before after h keeps n others = keeps n (λ f. others (d, h, f))
 
 -- the first misfit of all commands

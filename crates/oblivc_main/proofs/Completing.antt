@@ -12,7 +12,7 @@ use Rattle.oblivc_main.specs.Words.{IsClear, clear_words}
 use Rattle.oblivc_main.specs.DealWords.{IsDealCommand}
 use Rattle.oblivc_main.proofs.Causes.{not_both}
 use Rattle.oblivc_main.specs.Endings.{Files, IsWrong, IsUnreadable}
-use Rattle.oblivc_main.specs.Statuses.{Call, files_of, OfCommand, HasForms, IsFaultless, Completes, Answered, done, refused, usage, unread, wrong_input, without_memory, unwritten, OfDeal, SaysRefused, SaysFile, SaysUnwritable}
+use Rattle.oblivc_main.specs.Statuses.{Call, files_of, OfCommand, HasForms, IsFaultless, Completes, Answered, done, refused, usage, file_fault, wrong_input, without_memory, unwritten, OfDeal, SaysRefused, SaysFile, SaysUnwritable}
 use Rattle.oblivc_main.specs.declared.stop.Which.{Which}
 use Rattle.oblivc_main.specs.declared.stop.Which.TheVariants.{Source, First, Second}
 
@@ -69,7 +69,7 @@ module _ (c : Call) (q : OfCommand c HasForms) where
   only status (done e d) l = inl e
   only status (refused e r) l = let o = r.0 in let said = o.4 in absurd (not_refused (files_of c o.0 o.1 o.2) (forms o.0 o.1 o.2 o.3) said.0 said.1)
   only status (usage e u) l = let w = u.1 in absurd (w.none (inl (q.0, q.1, q.2, q.3)))
-  only status (unread e u) l = absurd (all_read u.0 l.0)
+  only status (file_fault e u) l = absurd (all_read u.0 l.0)
   only status (wrong_input e w) l = let o = w.0 in let wrong = o.4 in absurd (not_wrong (files_of c o.0 o.1 o.2) (forms o.0 o.1 o.2 o.3) wrong.0 wrong.1)
   only status (without_memory e m) l = inr e
   only status (unwritten e u) l = absurd (l.1 u.1)
@@ -86,7 +86,7 @@ module _ (c : Call) (q : IsDealCommand c.words) where
   dealt status (done e d) l = inl e
   dealt status (refused e r) l = absurd (no_clear (λ f. SaysRefused c.err f) r.0)
   dealt status (usage e u) l = let w = u.1 in absurd (w.none (inr q))
-  dealt status (unread e u) l = absurd (all_written u.0 l.0)
+  dealt status (file_fault e u) l = absurd (all_written u.0 l.0)
   dealt status (wrong_input e w) l = absurd (no_clear (λ f. (which : Which) × IsWrong f which) w.0)
   dealt status (without_memory e m) l = inr e
   dealt status (unwritten e u) l = absurd (l.1 u.1)

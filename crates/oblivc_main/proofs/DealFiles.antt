@@ -2,13 +2,13 @@
 use Rattle.std.proofs.Common.{ℕ, ◌≡◌, ◌≤◌, List, Option, Some, Result, Ok, Err, sym, subst, arith}
 use Rattle.std.specs.Prelude.{IfSome, ◌≢◌}
 use Rattle.oblivc_main.specs.Reading.{Told, Holds}
-use Rattle.oblivc_main.specs.DealWords.{Deal}
+use Rattle.oblivc_main.specs.DealWords.{DealAsked}
 use Rattle.oblivc_main.specs.DealEndings.{PutEnds, DealEnds, first_file, second_file}
 use Rattle.oblivc_main.specs.declared.deal.DealFile.TheVariants.{FirstFile, SecondFile}
 use Rattle.oblivc_main.specs.declared.deal.DealStop.{DealStop}
 use Rattle.oblivc_main.specs.declared.deal.DealStop.TheVariants.{Unwritten, NoMemory}
 
-module _ (before between after : Told) (faults_0 faults_1 faults_2 : ℕ) (failed : Option (List ℕ)) (d : Deal)
+module _ (before between after : Told) (faults_0 faults_1 faults_2 : ℕ) (failed : Option (List ℕ)) (d : DealAsked)
     (first : Holds between d.first (first_file d)) (least : faults_0 ≤ faults_1) (elsewhere : (n : List ℕ) → n ≢ d.second → after n ≡ between n) where
   kept : d.first ≢ d.second → Holds after d.first (first_file d)
   kept apart = subst (λ told. IfSome told (λ held. held ≡ Some (first_file d))) (sym (elsewhere d.first apart)) first

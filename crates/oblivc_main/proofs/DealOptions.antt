@@ -10,7 +10,7 @@ use Rattle.hex.specs.Hex.{encode_lower}
 use Rattle.hex.proofs.HexLemmas.{decode_sized-encode_lower}
 use Rattle.dealt_transfer.specs.Halves.{most}
 use Rattle.oblivc_main.specs.Words.{Begins, UsageOf}
-use Rattle.oblivc_main.specs.DealWords.{Deal, IsCount, IsDeal, IsDealCommand, IsKey, IsOrder, Says, Wanted, all_wanted, deal_words, name_of, none_wanted, option_words, wants, without}
+use Rattle.oblivc_main.specs.DealWords.{DealAsked, IsCount, IsDeal, IsDealCommand, IsKey, IsOrder, Says, Wanted, all_wanted, deal_words, name_of, none_wanted, option_words, wants, without}
 use Rattle.oblivc_main.specs.DealGiven.{Agrees, Takes, deal_of, wanted_of}
 use Rattle.oblivc_main.specs.declared.deal_words.DealOption.{DealOption}
 use Rattle.oblivc_main.specs.declared.deal_words.DealOption.TheVariants.{Key, Count, First, Second}
@@ -20,7 +20,7 @@ use Rattle.oblivc_main.specs.declared.deal_words.Given.{Given}
 abbrev pub Entry : Type 0
 Entry = DealOption × List ℕ
 
-abbrev pub AllSaid : Deal → List Entry → Type 0
+abbrev pub AllSaid : DealAsked → List Entry → Type 0
 AllSaid d os = AllByRecursion (λ o. Says o.0 o.1 d) os
 
 -- ---- names
@@ -124,12 +124,12 @@ complete_order w = four w.key w.count w.first w.second
     four false false false true = (refl, refl)
     four false false false false = refl
 
-one_said : (d : Deal) (b : Bool) (o : DealOption) → (b ≡ true → Says o (default_word o) d) → AllSaid d (one b o)
+one_said : (d : DealAsked) (b : Bool) (o : DealOption) → (b ≡ true → Says o (default_word o) d) → AllSaid d (one b o)
 unfolding one
 one_said d true o h = (h refl, tt)
 one_said d false o h = tt
 
-complete_said : (w : Wanted) (d : Deal) → ((o : DealOption) → wants w o ≡ true → Says o (default_word o) d) → AllSaid d (complete w)
+complete_said : (w : Wanted) (d : DealAsked) → ((o : DealOption) → wants w o ≡ true → Says o (default_word o) d) → AllSaid d (complete w)
 unfolding complete
 complete_said w d h =
     let P : Entry → Type 0 = λ o. Says o.0 o.1 d in
@@ -138,7 +138,7 @@ complete_said w d h =
     (all_join P (one w.first First) (one w.second Second) (one_said d w.first First (h First)) (one_said d w.second Second (h Second))))
 
 -- what was given, and else these values
-pub fill : Given → Deal
+pub fill : Given → DealAsked
 fill g = record {
   key = unwrap_or g.key zeros;
   count = unwrap_or g.count 0;
@@ -215,7 +215,7 @@ pub record Read (words : List (List ℕ)) (at : ℕ) (g : Given) : Type 0 where
   pub done : List Entry
   pub text : take at words ≡ deal_words done
   pub taken : Taken all_wanted done (wanted_of g)
-  pub said : (d : Deal) → Agrees g d → AllSaid d done
+  pub said : (d : DealAsked) → Agrees g d → AllSaid d done
 
 module _ (words : List (List ℕ)) (at : ℕ) (g : Given) (r : Read words at g) where
   -- they go on to a command with what is wanted
@@ -244,7 +244,7 @@ module _ (words : List (List ℕ)) (at : ℕ) (g : Given) (r : Read words at g) 
       )
 
   -- a command that begins with them goes on with options that are wanted
-  pub goes_on_so : (tail : List (List ℕ)) (d : Deal) → IsDeal (take at words ++ tail) d → (rest : List Entry) × IsOrder (wanted_of g) rest × (flat_map option_words rest ≡ tail) × AllSaid d rest
+  pub goes_on_so : (tail : List (List ℕ)) (d : DealAsked) → IsDeal (take at words ++ tail) d → (rest : List Entry) × IsOrder (wanted_of g) rest × (flat_map option_words rest ≡ tail) × AllSaid d rest
   goes_on_so tail d c =
       let whole : codes "deal" ∷ flat_map option_words c.options ≡ codes "deal" ∷ (flat_map option_words r.done ++ tail) = sym c.text ∙ ap (λ t. t ++ tail) r.text in
       let others : flat_map option_words c.options ≡ flat_map option_words r.done ++ tail = cc in
@@ -268,7 +268,7 @@ module _ (words : List (List ℕ)) (at : ℕ) (g : Given) (r : Read words at g) 
       short (o ∷ os) e = cc
 
   -- nor goes on with a value that its option hasn't
-  pub no_such_value : (o : DealOption) (x : List ℕ) (more : List (List ℕ)) → ((d : Deal) → Says o x d → ⊥) → IsDealCommand (take at words ++ (name_of o ∷ x ∷ more)) → ⊥
+  pub no_such_value : (o : DealOption) (x : List ℕ) (more : List (List ℕ)) → ((d : DealAsked) → Says o x d → ⊥) → IsDealCommand (take at words ++ (name_of o ∷ x ∷ more)) → ⊥
   no_such_value o x more misses c = let s = goes_on_so (name_of o ∷ x ∷ more) c.0 c.1 in wrong s.0 s.2 s.3
     where
       wrong : (rest : List Entry) → flat_map option_words rest ≡ name_of o ∷ x ∷ more → AllSaid c.0 rest → ⊥
@@ -305,7 +305,7 @@ pub read_deal_word : (words : List (List ℕ)) (g : Given) → take 1 words ≡ 
 read_deal_word words g e w = record { done = []; text = e; taken = sym w; said = λ d a. tt }
 
 -- all was read
-pub is_deal : (words : List (List ℕ)) (at : ℕ) (g : Given) (d : Deal) → Read words at g → length words ≤ at → wanted_of g ≡ none_wanted → Agrees g d → IsDeal words d
+pub is_deal : (words : List (List ℕ)) (at : ℕ) (g : Given) (d : DealAsked) → Read words at g → length words ≤ at → wanted_of g ≡ none_wanted → Agrees g d → IsDeal words d
 is_deal words at g d r le w a = record {
   options = r.done;
   once = subst (IsOrder all_wanted) (append-nil r.done) (taken_order all_wanted (wanted_of g) r.done [] r.taken w);
@@ -345,7 +345,7 @@ module _ (words : List (List ℕ)) (at : ℕ) (g : Given) (r : Read words at g) 
       }
 
   -- a word that is no value of its option
-  pub usage_value : (o : DealOption) (x : List ℕ) → name_of o ≡ w → wants (wanted_of g) o ≡ true → at + 1 < length words → x ≡ get_or words (at + 1) [] → ((d : Deal) → Says o x d → ⊥) → UsageOf IsDealCommand words (at + 1)
+  pub usage_value : (o : DealOption) (x : List ℕ) → name_of o ≡ w → wants (wanted_of g) o ≡ true → at + 1 < length words → x ≡ get_or words (at + 1) [] → ((d : DealAsked) → Says o x d → ⊥) → UsageOf IsDealCommand words (at + 1)
   usage_value o x name h more value misses =
       let named : take (at + 1) words ≡ take at words ++ name_of o ∷ [] = one_more ∙ ap (λ y. take at words ++ y ∷ []) (sym name) in
       usage_at words (at + 1) more (subst (Begins IsDealCommand) (sym named) (name_begins words at g r o h)) (λ b.
@@ -382,17 +382,17 @@ answered words at g (Some d) n e r le h = is_deal words at g (deal_of d) r le h.
 answered words at g None n e r le h = subst (UsageOf IsDealCommand words) (sym e) (usage_wanted words at g r le h)
 
 -- a number of transfers was asked for, and it is no more than there may be
-option_counts : (d : Deal) (w : Wanted) (p : DealOption) (x : List ℕ) (os : List Entry) → ((v : Wanted) → v.count ≡ true → IsOrder v os → d.count ≤ most) → w.count ≡ true → IsOrder (without w p) os → Says p x d → d.count ≤ most
+option_counts : (d : DealAsked) (w : Wanted) (p : DealOption) (x : List ℕ) (os : List Entry) → ((v : Wanted) → v.count ≡ true → IsOrder v os → d.count ≤ most) → w.count ≡ true → IsOrder (without w p) os → Says p x d → d.count ≤ most
 option_counts d w Key x os rest h i s = rest (without w Key) h i
 option_counts d w Count x os rest h i s = s.range
 option_counts d w First x os rest h i s = rest (without w First) h i
 option_counts d w Second x os rest h i s = rest (without w Second) h i
 
-counted : (d : Deal) (w : Wanted) (os : List Entry) → w.count ≡ true → IsOrder w os → AllSaid d os → d.count ≤ most
+counted : (d : DealAsked) (w : Wanted) (os : List Entry) → w.count ≡ true → IsOrder w os → AllSaid d os → d.count ≤ most
 counted d w [] h i s = absurd (false≢true (sym (ap (λ v. v.count) i) ∙ h))
 counted d w (o ∷ os) h i s = option_counts d w o.0 o.1 os (λ v k j. counted d v os k j s.1) h i.1 s.0
 
-pub few_dealt : (words : List (List ℕ)) (d : Deal) → IsDeal words d → d.count ≤ most
+pub few_dealt : (words : List (List ℕ)) (d : DealAsked) → IsDeal words d → d.count ≤ most
 few_dealt words d c = counted d all_wanted c.options refl c.once c.said
 
 pub few_answered : (words : List (List ℕ)) (r : Result DealWords ℕ) → MatchResult r (λ d. IsDeal words (deal_of d)) (λ k. UsageOf IsDealCommand words k) → IfOk r (λ d. d.count ≤ most)

@@ -4,17 +4,17 @@ use Rattle.oc_outside.specs.Counts.{Rose}
 use Rattle.dealt_transfer.specs.Dealing.{sender_dealt, receiver_dealt}
 use Rattle.dealt_transfer.specs.Files.{sender_file, receiver_file}
 use Rattle.oblivc_main.specs.Reading.{Told, Holds}
-use Rattle.oblivc_main.specs.DealWords.{Deal, IsDeal}
+use Rattle.oblivc_main.specs.DealWords.{DealAsked, IsDeal}
 use Rattle.oblivc_main.specs.declared.deal.DealFile.{DealFile}
 use Rattle.oblivc_main.specs.declared.deal.DealFile.TheVariants.{FirstFile, SecondFile}
 use Rattle.oblivc_main.specs.declared.deal.DealStop.{DealStop}
 use Rattle.oblivc_main.specs.declared.deal.DealStop.TheVariants.{Unwritten, NoMemory}
 
 -- the bytes of both files: those of the two halves that are dealt of the key
-abbrev pub first_file : Deal → List ℕ
+abbrev pub first_file : DealAsked → List ℕ
 first_file d = sender_file (sender_dealt d.key d.count)
 
-abbrev pub second_file : Deal → List ℕ
+abbrev pub second_file : DealAsked → List ℕ
 second_file d = receiver_file (receiver_dealt d.key d.count)
 
 -- what the vault of a call tells of each name before and after, its faults before and after, and the name that failed last
@@ -26,26 +26,26 @@ pub record Writing : Type 0 where
   pub failed : Option (List ℕ)
 
 -- both files hold their bytes; where both have one name, it holds the second ones
-abbrev pub HoldsBoth : Writing → Deal → Type 0
+abbrev pub HoldsBoth : Writing → DealAsked → Type 0
 HoldsBoth w d = Holds w.after d.second (second_file d) × (d.first ≢ d.second → Holds w.after d.first (first_file d))
 
-abbrev pub file_name : Deal → DealFile → List ℕ
+abbrev pub file_name : DealAsked → DealFile → List ℕ
 file_name d FirstFile = d.first
 file_name d SecondFile = d.second
 
 -- what was written before a file, and that nothing else was
-abbrev pub WritesUpTo : Writing → Deal → DealFile → Type 0
+abbrev pub WritesUpTo : Writing → DealAsked → DealFile → Type 0
 WritesUpTo w d FirstFile = (n : List ℕ) → n ≢ d.first → w.after n ≡ w.before n
 WritesUpTo w d SecondFile = d.first ≢ d.second → Holds w.after d.first (first_file d)
 
 -- a file can't be written: the faults rose, and it is the name that failed last
-pub record IsUnwritable (w : Writing) (d : Deal) (file : DealFile) : Type 0 where
+pub record IsUnwritable (w : Writing) (d : DealAsked) (file : DealFile) : Type 0 where
   pub rose : Rose w.faults_before w.faults_after
   pub named : IfSome w.failed (λ last. last ≡ file_name d file)
   pub earlier : WritesUpTo w d file
 
 -- the cause of each end
-abbrev pub DealEnds : Writing → Deal → Result (Unit {0}) DealStop → Type 0
+abbrev pub DealEnds : Writing → DealAsked → Result (Unit {0}) DealStop → Type 0
 DealEnds w d (Ok u) = HoldsBoth w d
 DealEnds w d (Err (Unwritten file)) = IsUnwritable w d file
 DealEnds w d (Err NoMemory) = Unit {0}
@@ -57,9 +57,9 @@ PutEnds w name bytes file (Err (Unwritten other)) = (other ≡ file) × Rose w.f
 PutEnds w name bytes file (Err NoMemory) = Unit {0}
 
 -- a name is one of both files
-abbrev pub IsFileOf : Deal → List ℕ → Type 0
+abbrev pub IsFileOf : DealAsked → List ℕ → Type 0
 IsFileOf d name = (name ≡ d.first) ⊎ (name ≡ d.second)
 
 -- words ask to make a file of this name
 abbrev pub Makes : List (List ℕ) → List ℕ → Type 0
-Makes words name = (d : Deal) × IsDeal words d × IsFileOf d name
+Makes words name = (d : DealAsked) × IsDeal words d × IsFileOf d name

@@ -8,7 +8,7 @@ use Rattle.oblivc_main.specs.declared.deal_words.DealOption.{DealOption}
 use Rattle.oblivc_main.specs.declared.deal_words.DealOption.TheVariants.{Key, Count, First, Second}
 
 -- what the words ask for: the key's 32 bytes, the number of transfers, and the names of both files
-pub record Deal : Type 0 where
+pub record DealAsked : Type 0 where
   pub key : List ℕ
   pub count : ℕ
   pub first : List ℕ
@@ -34,7 +34,7 @@ pub record IsCount (word : List ℕ) (count : ℕ) : Type 0 where
   pub range : count ≤ most
 
 -- the option's value asks for this; any word is a name
-abbrev pub Says : DealOption → List ℕ → Deal → Type 0
+abbrev pub Says : DealOption → List ℕ → DealAsked → Type 0
 Says Key word d = IsKey word d.key
 Says Count word d = IsCount word d.count
 Says First word d = word ≡ d.first
@@ -77,11 +77,11 @@ abbrev pub deal_words : List (DealOption × List ℕ) → List (List ℕ)
 deal_words options = codes "deal" ∷ flat_map option_words options
 
 -- the words are that command and ask for this
-pub record IsDeal (words : List (List ℕ)) (d : Deal) : Type 0 where
+pub record IsDeal (words : List (List ℕ)) (d : DealAsked) : Type 0 where
   pub options : List (DealOption × List ℕ)
   pub once : IsOrder all_wanted options
   pub said : AllByRecursion (λ o. Says o.0 o.1 d) options
   pub text : words ≡ deal_words options
 
 abbrev pub IsDealCommand : List (List ℕ) → Type 0
-IsDealCommand words = (d : Deal) × IsDeal words d
+IsDealCommand words = (d : DealAsked) × IsDeal words d

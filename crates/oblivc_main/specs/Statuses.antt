@@ -8,7 +8,7 @@ use Rattle.oblivc_main.specs.declared.stop.Refusal.{Refusal}
 use Rattle.oblivc_main.specs.Inputs.{IsInput}
 use Rattle.oblivc_main.specs.Reading.{Told, Refuses}
 use Rattle.oblivc_main.specs.Words.{IsClear, Usage, Breaks}
-use Rattle.oblivc_main.specs.DealWords.{Deal, IsDeal, IsDealCommand}
+use Rattle.oblivc_main.specs.DealWords.{DealAsked, IsDeal, IsDealCommand}
 use Rattle.oblivc_main.specs.DealEndings.{Writing, HoldsBoth, DealEnds, IsUnwritable, Makes, file_name}
 use Rattle.oblivc_main.specs.declared.deal.DealFile.{DealFile}
 use Rattle.oblivc_main.specs.declared.deal.DealStop.{DealStop}
@@ -44,8 +44,8 @@ abbrev pub writing_of : Call → Writing
 writing_of c = record { before = c.told; after = c.told_after; faults_before = c.faults_before; faults_after = c.faults_after; failed = c.failed }
 
 -- a fact of what was written and asked for, where the words are `deal`
-abbrev pub OfDeal : Call → (Writing → Deal → Type 0) → Type 0
-OfDeal c fact = (d : Deal) × IsDeal c.words d × fact (writing_of c) d
+abbrev pub OfDeal : Call → (Writing → DealAsked → Type 0) → Type 0
+OfDeal c fact = (d : DealAsked) × IsDeal c.words d × fact (writing_of c) d
 
 -- the line was appended, unless the faults rose
 abbrev pub Says : Output → List ℕ → Type 0
@@ -56,7 +56,7 @@ abbrev pub SaysFile : Output → Files → Type 0
 SaysFile e f = (which : Which) × IsUnreadable f which × Says e (file_line (name_of f which))
 
 -- a file can't be written: its name is on the line
-abbrev pub SaysUnwritable : Output → Writing → Deal → Type 0
+abbrev pub SaysUnwritable : Output → Writing → DealAsked → Type 0
 SaysUnwritable e w d = (file : DealFile) × IsUnwritable w d file × Says e (file_line (file_name d file))
 
 -- the source is refused: the rule and the place are on the line
@@ -73,8 +73,8 @@ IsRefused c = OfCommand c (λ f. SaysRefused c.err f) × PrintsNothing c.out
 abbrev pub IsUsage : Call → Type 0
 IsUsage c = (k : ℕ) × Usage c.words k × PrintsNothing c.out × Says c.err (usage_line k)
 
-abbrev pub IsUnread : Call → Type 0
-IsUnread c = (OfCommand c (λ f. SaysFile c.err f) ⊎ OfDeal c (SaysUnwritable c.err)) × PrintsNothing c.out
+abbrev pub IsFileFault : Call → Type 0
+IsFileFault c = (OfCommand c (λ f. SaysFile c.err f) ⊎ OfDeal c (SaysUnwritable c.err)) × PrintsNothing c.out
 
 abbrev pub IsWrongInput : Call → Type 0
 IsWrongInput c = OfCommand c (λ f. (which : Which) × IsWrong f which) × PrintsNothing c.out × Says c.err input_line
@@ -90,7 +90,7 @@ pub data Answered (c : Call) (status : ℕ) : Type 0 where
   done : status ≡ 0 → IsDone c → Answered c status
   refused : status ≡ 1 → IsRefused c → Answered c status
   usage : status ≡ 2 → IsUsage c → Answered c status
-  unread : status ≡ 5 → IsUnread c → Answered c status
+  file_fault : status ≡ 5 → IsFileFault c → Answered c status
   wrong_input : status ≡ 9 → IsWrongInput c → Answered c status
   without_memory : status ≡ 10 → IsWithoutMemory c → Answered c status
   unwritten : status ≡ 11 → IsUnwritten c → Answered c status
@@ -143,7 +143,7 @@ abbrev pub deal_status_of : DealStop → ℕ
 deal_status_of (DealUnwritten file) = 5
 deal_status_of DealNoMemory = 10
 
-abbrev pub deal_line_of : Deal → DealStop → List ℕ
+abbrev pub deal_line_of : DealAsked → DealStop → List ℕ
 deal_line_of d (DealUnwritten file) = file_line (file_name d file)
 deal_line_of d DealNoMemory = memory_line
 
@@ -152,7 +152,7 @@ abbrev pub Said : Output → List ℕ → ℕ → ℕ → Type 0
 Said e line status result = ((result ≡ status) × Says e line) ⊎ (result ≡ 10)
 
 -- what `deal` answers: 0 where both files were written, else the status of a stop that has its cause
-abbrev pub DealAnswered : Writing → Output → Deal → ℕ → Type 0
+abbrev pub DealAnswered : Writing → Output → DealAsked → ℕ → Type 0
 DealAnswered w e d status =
     ((status ≡ 0) × HoldsBoth w d × PrintsNothing e)
     ⊎ ((stop : DealStop) × DealEnds w d (Err stop) × Said e (deal_line_of d stop) (deal_status_of stop) status)

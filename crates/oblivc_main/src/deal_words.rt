@@ -3,7 +3,7 @@
 ghost use Rattle.std.specs.Prelude.{◌≡◌, ◌≢◌, ◌↔◌, ℕ, [], ◌∷◌, IsTrue, true, codes, take, ◌≤◌, IfOk, MatchOption, MatchResult};
 ghost use Rattle.dealt_transfer.specs.Halves.{most};
 ghost use Rattle.oblivc_main.specs.Words.{UsageOf, texts};
-ghost use Rattle.oblivc_main.specs.DealWords.{Deal, IsCount, IsDeal, IsDealCommand, Says, name_of, none_wanted, wants};
+ghost use Rattle.oblivc_main.specs.DealWords.{DealAsked, IsCount, IsDeal, IsDealCommand, Says, name_of, none_wanted, wants};
 ghost use Rattle.oblivc_main.specs.DealGiven.{Agrees, Takes, deal_of, wanted_of};
 ghost use Rattle.oblivc_main.specs.declared.deal_words.DealOption.{DealOption as Choice};
 
@@ -84,7 +84,7 @@ fn count_of(word: &[u8]) -> Option<u32>
 /// What is given with one more option, where the word is a value for it.
 fn with_option<'w>(given: Given<'w>, option: DealOption, word: &'w str) -> Option<Given<'w>>
     requires { IsTrue (wants (wanted_of given) option) }
-    ensures { MatchOption result ((d : Deal) → Says option word.now d → ⊥) (Takes given.entry option word.now) }
+    ensures { MatchOption result ((d : DealAsked) → Says option word.now d → ⊥) (Takes given.entry option word.now) }
 {
     let mut more = given;
     match option {

@@ -47,7 +47,7 @@ fn line_for_refusal(alloc: Global, refusal: Refusal) -> Result<String, AllocErro
     format!(in alloc; "refused {rule} {line}:{column}\n")
 }
 
-/// The line for a file that can't be read.
+/// The line for a file that can't be read or written.
 pub fn line_for_file(alloc: Global, name: &str) -> Result<String, AllocError>
     ensures { IfOk result (λ line. string_bytes line ≡ file_line name.now) }
 {

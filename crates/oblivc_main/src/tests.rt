@@ -259,7 +259,7 @@ fn inputs(rt: HostRuntime) -> Result<(), Fail> {
     Ok(())
 }
 
-// The sum, with spaces at its end up to this length.
+// A program of one number in this many parentheses.
 fn nested(alloc: Global, depth: u32) -> Result<Vec<u8>, Fail> {
     let mut source = Vec::new(alloc);
     source.extend_from_slice(b"void oc_main(void) {int r;r=")?;
@@ -274,6 +274,7 @@ fn nested(alloc: Global, depth: u32) -> Result<Vec<u8>, Fail> {
     Ok(source)
 }
 
+// The sum, with spaces at its end up to this length.
 fn padded(alloc: Global, length: usize) -> Result<Vec<u8>, Fail> {
     let mut source = Vec::new(alloc);
     source.extend_from_slice(SUM)?;
