@@ -1,7 +1,7 @@
 //! What a run holds, and why it stops.
 
 use oc_tree::{Block, Named, Outcome, Row, ShownItem};
-use oc_values::Items;
+use oc_values::{Items, NoMemory};
 use std::alloc::AllocError;
 
 /// Why a run has no answer at a node.
@@ -18,6 +18,17 @@ impl From<AllocError> for Fault {
     ghost from_gives = { λ _ e. e ≡ NoMemory };
 
     fn from(_error: AllocError) -> Fault {
+        Fault::NoMemory
+    }
+}
+
+impl From<NoMemory> for Fault {
+    ghost use Rattle.std.specs.Prelude.{◌≡◌};
+    ghost use Rattle.clear_run.specs.declared.machine.Fault.TheVariants.{NoMemory as NoMemoryFault};
+
+    ghost from_gives = { λ _ e. e ≡ NoMemoryFault };
+
+    fn from(_error: NoMemory) -> Fault {
         Fault::NoMemory
     }
 }
