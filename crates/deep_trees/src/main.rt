@@ -29,10 +29,26 @@ const DEEPEST: [(&str, Parts, u32); 20] = [
     ("ifs", ["void f(){", "if(a)", "", "", ";}"], 248),
     ("whiles", ["void f(){", "while(a)", "", "", ";}"], 248),
     ("fors", ["void f(){", "for(;;)", "", "", ";}"], 198),
-    ("else chains", ["void f(){", "if(a);else ", "", "", ";}"], 165),
-    ("ifs with else", ["void f(){", "if(a)", ";", "else;", "}"], 165),
-    ("obliv ifs", ["void f(){", "obliv if(a){", "", "}", "}"], 165),
-    ("always blocks", ["void f(){", "~obliv(a){", "", "}", "}"], 165),
+    (
+        "else chains",
+        ["void f(){", "if(a);else ", "", "", ";}"],
+        165,
+    ),
+    (
+        "ifs with else",
+        ["void f(){", "if(a)", ";", "else;", "}"],
+        165,
+    ),
+    (
+        "obliv ifs",
+        ["void f(){", "obliv if(a){", "", "}", "}"],
+        165,
+    ),
+    (
+        "always blocks",
+        ["void f(){", "~obliv(a){", "", "}", "}"],
+        165,
+    ),
 ];
 
 fn source_of(alloc: Global, parts: &Parts, count: u32) -> Result<String, AllocError> {
