@@ -1,7 +1,6 @@
 -- Which nodes still take an `else`.
-use Rattle.std.proofs.Common.{◌≡◌, refl, Bool, true, false, Option, Some, None, List, ap, sym, ◌∙◌}
+use Rattle.std.proofs.Common.{◌≡◌, Bool, true, false, Option, Some, None, List, ap, sym, ◌∙◌}
 use Rattle.oc_tree.specs.declared.spot.Spot.{Spot}
-use Rattle.oc_tree.specs.declared.parsed.Declared.{Declared}
 use Rattle.oc_tree.specs.declared.parsed.Expr.{Expr}
 use Rattle.oc_tree.specs.declared.parsed.ForInit.{ForInit}
 use Rattle.oc_tree.specs.declared.parsed.Stmt.{Stmt, fold-roll-Stmt}

@@ -1,9 +1,8 @@
 -- What the tables say of a token, read backwards.
-use Rattle.std.proofs.Common.{◌≡◌, ℕ, ◌≤◌, Bool, true, false, Option, Some, None, refl, sym, ap, arith, ◌∙◌}
+use Rattle.std.proofs.Common.{true, false}
 use Rattle.oc_lexer.specs.declared.token.TokenKind.{TokenKind}
-use Rattle.oc_lexer.specs.declared.token.TokenKind.TheVariants.{Name, Number, Character, Text, Keyword, Sign}
+use Rattle.oc_lexer.specs.declared.token.TokenKind.TheVariants.{Keyword}
 use Rattle.oc_lexer.specs.declared.token.Keyword.TheVariants as w
-use Rattle.oc_grammar.specs.declared.tables.Width.{Width}
 use Rattle.oc_grammar.specs.declared.tables.Width.TheVariants as width
 use Rattle.oc_grammar.specs.declared.tables.Opening.{Opening}
 use Rattle.oc_grammar.specs.declared.tables.Opening.TheVariants as o

@@ -1,5 +1,5 @@
 -- Calls: what a call that reads a form answers.
-use Rattle.std.specs.Prelude.{◌≡◌, ℕ, List, [], ◌∷◌, ◌++◌, Result, Ok, Err}
+use Rattle.std.specs.Prelude.{ℕ, List, [], ◌∷◌, Result, Ok, Err}
 use Rattle.std.specs.Borrow.{Bor}
 use Rattle.oc_tree.specs.declared.spot.Spot.{Spot}
 use Rattle.oc_lexer.specs.declared.token.Token.{Token}

@@ -1,5 +1,5 @@
 -- Headings: which tokens spell a struct definition, a function and a program.
-use Rattle.std.specs.Prelude.{◌≡◌, ℕ, List, [], ◌∷◌, ◌++◌, Bool, true, false, Option, Some, None}
+use Rattle.std.specs.Prelude.{ℕ, List, [], ◌∷◌, ◌++◌, Bool, true, false, Option, Some, None}
 use Rattle.oc_tree.specs.declared.spot.Spot.{Spot}
 use Rattle.oc_tree.specs.declared.literal.Literal.{Literal}
 use Rattle.oc_tree.specs.declared.parsed.BaseName.{BaseName}

@@ -1,6 +1,6 @@
 -- Open statements: those that could still take an `else`.
-use Rattle.std.specs.Prelude.{Bool, true, false, Option, Some, None}
-use Rattle.oc_tree.specs.declared.parsed.Stmt.{Stmt, Stmt-F, fold-Stmt}
+use Rattle.std.specs.Prelude.{Bool, true, false, Some, None}
+use Rattle.oc_tree.specs.declared.parsed.Stmt.{Stmt, fold-Stmt}
 use Rattle.oc_tree.specs.declared.parsed.StmtNode.{StmtNode-F}
 
 -- whether a statement ends in an `if` or `obliv if` without an else, from the same of its parts

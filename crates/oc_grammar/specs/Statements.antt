@@ -1,5 +1,5 @@
 -- Statements: which tokens spell a declaration, a statement and a block.
-use Rattle.std.specs.Prelude.{◌≡◌, List, [], ◌∷◌, ◌++◌, Bool, true, false, Option, Some, None}
+use Rattle.std.specs.Prelude.{◌≡◌, List, [], ◌∷◌, ◌++◌, true, false, Option, Some, None}
 use Rattle.oc_tree.specs.declared.parsed.BaseName.{BaseName}
 use Rattle.oc_tree.specs.declared.parsed.FieldDef.{FieldDef}
 use Rattle.oc_tree.specs.declared.parsed.Declared.{Declared}

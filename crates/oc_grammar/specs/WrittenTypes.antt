@@ -1,5 +1,5 @@
 -- Written types: which tokens spell a type, a declared name, and a list with commas.
-use Rattle.std.specs.Prelude.{◌≡◌, ℕ, ◌+◌, List, [], ◌∷◌, ◌++◌, Bool, true, false}
+use Rattle.std.specs.Prelude.{ℕ, ◌+◌, List, [], ◌∷◌, ◌++◌, true, false}
 use Rattle.oc_values.specs.declared.integers.IntKind.{IntKind}
 use Rattle.oc_values.specs.declared.integers.IntKind.TheVariants as kind
 use Rattle.oc_tree.specs.declared.literal.Literal.{Literal}

@@ -1,4 +1,3 @@
-use Rattle.std.proofs.Common.{◌≡◌}
 use Rattle.clear_run.specs.Runs.{zero_of}
 use Rattle.clear_run.proofs.Blanks.{blanks_step}
 use Rattle.clear_run.proofs.memory.blank_cells.Goals as goal
