@@ -9,7 +9,9 @@ use Rattle.std.proofs.lemmas.Bool.{ltb-true, cases_lt}
 use Rattle.oc_values.specs.Integers.{is_in_bits}
 use Rattle.oc_tree.specs.declared.program.Typed.{Typed}
 use Rattle.oc_tree.specs.declared.spot.Spot.{Spot}
-use Rattle.oblivc_main.specs.Sources.{IsTyped, IsRefused, Breaks, ReadsTree}
+use Rattle.oc_lexer.specs.declared.token.LexRule.TheVariants.{L6}
+use Rattle.oc_lexer.specs.Places.{spot_after}
+use Rattle.oblivc_main.specs.Sources.{IsTyped, IsAccepted, IsRefused, Breaks, ReadsTree}
 use Rattle.oblivc_main.specs.Endings.{ReadSource}
 use Rattle.oblivc_main.specs.declared.stop.Rule.{Rule}
 use Rattle.oblivc_main.specs.declared.stop.Rule.TheVariants as rule
@@ -46,8 +48,15 @@ some_told (Some (Some whole)) bytes limit h = (whole, refl, inl h)
 typed_size : (source : List ℕ) (t : Typed) → IsTyped source t → length source ≤ 1048576
 typed_size source t h = h.parsed.tokens.spelled.size
 
-accepted : (told : Told) (file bytes : List ℕ) (t : Typed) → Fronts (told file) 1048577 bytes → IsTyped bytes t → Accepts told file t
-accepted told file bytes t h f = (bytes, whole_told (told file) bytes 1048577 h (omega (arith, typed_size bytes t f)), f)
+accepted : (told : Told) (file bytes : List ℕ) (t : Typed) → Fronts (told file) 1048577 bytes → IsAccepted bytes t → Accepts told file t
+accepted told file bytes t h a = (bytes, whole_told (told file) bytes 1048577 h (omega (arith, typed_size bytes t a.typed)), a)
+
+-- a long text breaks one rule, at its start
+long_breaks : (source : List ℕ) (broken : Rule) (spot : Spot) → 1048576 < length source → Breaks source broken spot → (broken ≡ rule.Lex L6) × (spot ≡ spot_after [])
+long_breaks source (rule.Lex broken) spot long (inl b) = (ap rule.Lex b.1, b.2)
+long_breaks source (rule.Lex broken) spot long (inr short) = absurd (omega (arith, short.0, long))
+long_breaks source (rule.Parse broken) spot long b = let lexed = b.1 in absurd (omega (arith, lexed.spelled.size, long))
+long_breaks source rule.First spot long b = let parsed = b.0.1 in absurd (omega (arith, parsed.tokens.spelled.size, long))
 
 -- a long text breaks the rule that its front breaks, which is long too
 breaks_long : (whole bytes : List ℕ) (broken : Rule) (spot : Spot) → 1048576 < length bytes → 1048576 < length whole → Breaks bytes broken spot → Breaks whole broken spot
@@ -59,6 +68,7 @@ breaks_long whole bytes rule.First spot lb lw b = let parsed = b.0.1 in absurd (
 refused_long : (whole bytes : List ℕ) (r : Refusal) → 1048576 < length bytes → 1048576 < length whole → IsRefused bytes r → IsRefused whole r
 refused_long whole bytes r lb lw h = record {
   broken = breaks_long whole bytes r.rule r.spot lb lw h.broken;
+  only = λ broken spot b. let one = long_breaks whole broken spot lw b in let other = long_breaks bytes r.rule r.spot lb h.broken in (one.0 ∙ sym other.0, one.1 ∙ sym other.1);
   none = λ t f. absurd (omega (arith, typed_size whole t f, lw));
 }
 

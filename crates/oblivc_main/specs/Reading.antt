@@ -3,7 +3,7 @@ use Rattle.std.specs.Prelude.{ℕ, ◌≡◌, ℤ, List, Option, Some, None, IfS
 use Rattle.oc_outside.specs.Counts.{Rose}
 use Rattle.oc_tree.specs.declared.program.Typed.{Typed}
 use Rattle.oblivc_main.specs.declared.stop.Refusal.{Refusal}
-use Rattle.oblivc_main.specs.Sources.{IsTyped, IsRefused}
+use Rattle.oblivc_main.specs.Sources.{IsAccepted, IsRefused}
 use Rattle.oblivc_main.specs.Inputs.{IsInput}
 
 -- what a vault tells of each name: None where nothing is told, Some None where the name holds nothing
@@ -19,7 +19,7 @@ IsAbsent told name = IfSome (told name) (λ held. held ≡ None)
 
 -- the source has this tree, or it is refused
 abbrev pub Accepts : Told → List ℕ → Typed → Type 0
-Accepts told file t = (source : List ℕ) × Holds told file source × IsTyped source t
+Accepts told file t = (source : List ℕ) × Holds told file source × IsAccepted source t
 
 abbrev pub Refuses : Told → List ℕ → Refusal → Type 0
 Refuses told file r = (source : List ℕ) × Holds told file source × IsRefused source r

@@ -41,14 +41,20 @@ Breaks source (rule.Lex broken) spot = HasNoTokens source broken spot
 Breaks source (rule.Parse broken) spot = (lexed : Lexed) × IsLexed source lexed × HasNoTree lexed broken spot
 Breaks source rule.First spot = ((program : Program) × IsParsed source program × ((t : Typed) → First program t → ⊥)) × (spot ≡ record { line = 1; column = 1 })
 
--- a source is refused so, and has no tree
+-- the source has this typed tree, and breaks no rule
+pub record IsAccepted (source : List ℕ) (t : Typed) : Type 0 where
+  pub typed : IsTyped source t
+  pub unbroken : (rule : Rule) (spot : Spot) → Breaks source rule spot → ⊥
+
+-- the source breaks this rule at this spot and no other rule or spot, and has no typed tree
 pub record IsRefused (source : List ℕ) (r : Refusal) : Type 0 where
   pub broken : Breaks source r.rule r.spot
+  pub only : (rule : Rule) (spot : Spot) → Breaks source rule spot → (rule ≡ r.rule) × (spot ≡ r.spot)
   pub none : (t : Typed) → IsTyped source t → ⊥
 
 -- what reading a source answers
 abbrev pub ReadsTree : List ℕ → Result Typed Stop → Type 0
-ReadsTree source (Ok t) = IsTyped source t
+ReadsTree source (Ok t) = IsAccepted source t
 ReadsTree source (Err (Refused r)) = IsRefused source r
 ReadsTree source (Err NoMemory) = Unit {0}
 ReadsTree source (Err _) = ⊥

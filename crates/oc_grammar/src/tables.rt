@@ -1,7 +1,7 @@
 //! What single signs and keywords stand for in the grammar.
 
 ghost use Rattle.std.specs.Prelude.{◌≡◌};
-ghost use Rattle.oc_grammar.specs.Tables.{prefix, operator, assignment, bump, opening, kind_of};
+ghost use Rattle.oc_grammar.specs.Tables.{prefix, operator, assignment, opening, kind_of};
 
 use oc_lexer::{Keyword, Sign, TokenKind};
 use oc_tree::parsed::UnaryOp;
@@ -106,17 +106,6 @@ pub fn assignment_of(sign: Sign) -> Option<Option<BinaryOp>>
         Sign::XorAssign => Some(Some(BinaryOp::Xor)),
         Sign::ShiftLeftAssign => Some(Some(BinaryOp::Shl)),
         Sign::ShiftRightAssign => Some(Some(BinaryOp::Shr)),
-        _ => None,
-    }
-}
-
-/// Whether a sign is `++`, where it is one of `++` and `--`.
-pub fn bump_of(sign: Sign) -> Option<bool>
-    ensures { result ≡ bump sign }
-{
-    match sign {
-        Sign::PlusPlus => Some(true),
-        Sign::MinusMinus => Some(false),
         _ => None,
     }
 }

@@ -45,6 +45,7 @@ pub fn is_space(byte: u8) -> bool
     byte == b'\t' || (0x0B <= byte && byte <= b'\r') || byte == b' '
 }
 
+/// Whether the byte is a decimal digit.
 pub fn is_digit(byte: u8) -> bool
     ensures { result ≡ is_digit byte }
 {

@@ -21,6 +21,7 @@ impl Model for SureSink {
 }
 
 impl SureSink {
+    /// A sink that holds no bytes yet.
     pub fn new(alloc: Global) -> SureSink
         ensures { result ≡ [] }
     {

@@ -16,7 +16,7 @@ use oc_declarators::bases::base;
 use oc_expressions::expressions::before;
 use oc_expressions::signs::begins_type;
 use oc_grammar::ParseError;
-use oc_grammar::taking::{eat, expect, name, next, next_spot};
+use oc_grammar::taking::{eat, expect, name, next};
 use oc_lexer::{Sign, Token};
 use oc_tree::Spot;
 use oc_tree::parsed::{Expr, ForInit, Stmt, StmtNode};

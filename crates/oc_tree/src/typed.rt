@@ -13,6 +13,7 @@ pub struct TExpr {
     pub node: ExprNode,
 }
 
+/// What an expression is, with its parts.
 #[cycle(tree)]
 #[derive(Debug, Drop)]
 pub enum ExprNode {
@@ -42,6 +43,7 @@ pub struct TPlace {
     pub node: PlaceNode,
 }
 
+/// What a place is, with its parts.
 #[cycle(tree)]
 #[derive(Debug, Drop)]
 pub enum PlaceNode {
@@ -89,6 +91,7 @@ pub struct Stmt {
     pub node: StmtNode,
 }
 
+/// What a statement is, with its parts.
 #[derive(Debug, Drop)]
 pub enum StmtNode {
     Declare(Items<Declared>),
