@@ -9,6 +9,7 @@ pub record Summand : Type 0 where
   pub op : BinaryOp
   pub name : List ℕ
 
+-- an item of a program, which is one statement of its body
 pub data Item : Type 0 where
   -- a hidden name, fed with the word 0 of this party
   Feeds : List ℕ → ℕ → Item
@@ -19,12 +20,14 @@ pub data Item : Type 0 where
   -- a public name, printed on a line
   Prints : List ℕ → Item
 
+-- both words have the same bytes
 abbrev pub same_bytes : List ℕ → List ℕ → Bool
 same_bytes [] [] = true
 same_bytes [] (y ∷ ys) = false
 same_bytes (x ∷ xs) [] = false
 same_bytes (x ∷ xs) (y ∷ ys) = nat_eq x y && same_bytes xs ys
 
+-- the word is one of these
 abbrev pub is_among : List ℕ → List (List ℕ) → Bool
 is_among word [] = false
 is_among word (w ∷ ws) = same_bytes word w || is_among word ws
@@ -47,10 +50,12 @@ pub record Named : Type 0 where
   pub name : List ℕ
   pub hidden : Bool
 
+-- whether a name is hidden, by its first declaration, or None where it has none
 abbrev pub mark_of : List ℕ → List Named → Option Bool
 mark_of name [] = None
 mark_of name (d ∷ ds) = if same_bytes name d.name then Some d.hidden else mark_of name ds
 
+-- there is a mark, and it is this one
 abbrev pub is_marked : Option Bool → Bool → Bool
 is_marked (Some true) b = b
 is_marked (Some false) b = not b
@@ -60,14 +65,17 @@ is_marked None b = false
 abbrev pub is_known : List Named → Bool → List ℕ → Bool
 is_known ds hidden name = is_marked (mark_of name ds) hidden
 
+-- the word is a name, and isn't declared yet
 abbrev pub is_new : List Named → List ℕ → Bool
 is_new ds name = is_name name && not (is_marked (mark_of name ds) true || is_marked (mark_of name ds) false)
 
+-- the operator is a plus or a minus
 abbrev pub is_plus_or_minus : BinaryOp → Bool
 is_plus_or_minus Add = true
 is_plus_or_minus Sub = true
 is_plus_or_minus _ = false
 
+-- the summand is a name that is declared as hidden, with a plus or a minus before it
 abbrev pub is_summand : List Named → Summand → Bool
 is_summand ds s = is_plus_or_minus s.op && is_known ds true s.name
 
@@ -85,6 +93,7 @@ declared_by (Declares name) = record { name = name; hidden = false } ∷ []
 declared_by (Reveals target name more) = []
 declared_by (Prints name) = []
 
+-- each item may stand after these names and those that the items before it declare
 abbrev pub are_items : List Named → List Item → Bool
 are_items ds [] = true
 are_items ds (i ∷ is) = is_item ds i && are_items (ds ++ declared_by i) is

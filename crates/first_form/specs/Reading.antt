@@ -23,29 +23,36 @@ pub record IsNumber (value : ℕ) (x : Expr) : Type 0 where
   pub kind : literal.kind ≡ I32
   pub same : literal.value ≡ value
 
+-- the expression that is this name, at the name's spot
 abbrev pub source_name : SourceName → Expr
 source_name n = name_at n.spot n.text.now
 
+-- the number names a party: it is 1 or 2
 abbrev pub is_party : ℕ → Bool
 is_party n = nat_eq n 1 || nat_eq n 2
 
+-- the expression is the literal of this party, which is 1 or 2
 pub record PartyRead (x : Expr) (party : ℕ) : Type 0 where
   pub whole : x ≡ number x.spot (party_literal party)
   pub one : IsTrue (is_party party)
 
+-- the expression is `feedOblivInt(ocPrivate(0), party)` with these spots, and the party is 1 or 2
 pub record FeedRead (x : Expr) (f : SourceFeed) : Type 0 where
   pub party_spot : Spot
   pub whole : x ≡ feed f.call f.word f.index party_spot f.party
   pub one : IsTrue (is_party f.party)
 
+-- the field is one `int` of this name at the name's spot, marked as hidden or not
 pub record FieldRead (x : FieldDef) (name : SourceName) (hidden : Bool) : Type 0 where
   pub type_spot : Spot
   pub whole : x ≡ field name.spot name.text.now (int_base type_spot false hidden I32) 0 []
 
+-- the expression is `revealOblivInt(&target, sum, 0)` with this target, this sum and these spots
 pub record RevealRead (x : Expr) (r : SourceReveal) : Type 0 where
   pub zero_spot : Spot
   pub whole : x ≡ revealing r.call r.address r.target.spot zero_spot r.target.text.now r.sum.now
 
+-- the expression is `printf` of this name in decimal and a newline, with the call at this spot
 pub record PrintRead (x : Expr) (call : Spot) (name : SourceName) : Type 0 where
   pub text_spot : Spot
   pub whole : x ≡ printing call text_spot name.spot name.text.now
@@ -57,10 +64,12 @@ source_of s p q (source.Declares name) = declaration s name.spot p false name.te
 source_of s p q (source.Reveals r) = stmt s (st.Express (revealing r.call r.address r.target.spot p r.target.text.now r.sum.now))
 source_of s p q (source.Prints c name) = stmt s (st.Express (printing c p name.spot name.text.now))
 
+-- where the item feeds a name, its party is 1 or 2
 abbrev pub feeds_party : SourceItem → Bool
 feeds_party (source.Feeds name f) = is_party f.party
 feeds_party _ = true
 
+-- the item was read from this statement, and its party is 1 or 2 where it feeds a name
 pub record ItemRead (x : ParsedStmt) (i : SourceItem) : Type 0 where
   pub first : Spot
   pub second : Spot

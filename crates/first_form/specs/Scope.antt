@@ -19,9 +19,11 @@ use Rattle.first_form.specs.Items.{Named, is_plus_or_minus, is_known, is_new}
 use Rattle.first_form.specs.Reading.{source_name}
 use Rattle.first_form.specs.Trees.{name_at, slot_of, int_type, reading, fed, pointing, declaring, calling}
 
+-- the bytes and the mark of a declared name that the reader keeps
 abbrev pub named : DeclaredName → Named
 named d = record { name = d.name.now; hidden = d.hidden }
 
+-- what an item that was read declares
 abbrev pub declared_of : SourceItem → List Named
 declared_of (source.Feeds name f) = record { name = name.text.now; hidden = true } ∷ []
 declared_of (source.Declares name) = record { name = name.text.now; hidden = false } ∷ []

@@ -36,24 +36,31 @@ first_of (ss ∷ more) = ss
 
 -- ---- parsed nodes
 
+-- the literal `0` of the kind I32
 abbrev pub literal_0 : Literal
 literal_0 = record { kind = I32; value = 0; of_kind = refl }
 
+-- the literal `1` of the kind I32
 abbrev pub literal_1 : Literal
 literal_1 = record { kind = I32; value = 1; of_kind = refl }
 
+-- the literal `2` of the kind I32
 abbrev pub literal_2 : Literal
 literal_2 = record { kind = I32; value = 2; of_kind = refl }
 
+-- the literal of a party: `1` of party 1, and else `2`
 abbrev pub party_literal : ℕ → Literal
 party_literal party = if nat_eq party 1 then literal_1 else literal_2
 
+-- the expression that is a literal, at this spot
 abbrev pub number : Spot → Literal → Expr
 number spot n = expr spot (e.Number n)
 
+-- the expression that is a name, at this spot
 abbrev pub name_at : Spot → List ℕ → Expr
 name_at spot name = expr spot (e.Named name)
 
+-- the expression that calls a function of this name with these arguments, at this spot
 abbrev pub call : Spot → List ℕ → List Expr → Expr
 call spot name args = expr spot (e.Call name args)
 
@@ -89,6 +96,7 @@ parsed ss (Declares name) = declaration (at ss 0) (at ss 1) (at ss 2) false name
 parsed ss (Reveals target name more) = stmt (at ss 0) (st.Express (revealing (at ss 1) (at ss 2) (at ss 3) (at ss 4) target (sum (drop 6 ss) (name_at (at ss 5) name) more)))
 parsed ss (Prints name) = stmt (at ss 0) (st.Express (printing (at ss 1) (at ss 2) (at ss 3) name))
 
+-- the parsed statements of items, with one list of spots an item
 abbrev pub parsed_items : List (List Spot) → List Item → List ParsedStmt
 parsed_items spots [] = []
 parsed_items spots (i ∷ is) = parsed (first_of spots) i ∷ parsed_items (drop 1 spots) is
@@ -97,6 +105,7 @@ parsed_items spots (i ∷ is) = parsed (first_of spots) i ∷ parsed_items (drop
 abbrev pub function_with : Spot → List ParsedStmt → Function
 function_with spot body = record { spot = spot; name = codes "oc_main"; result = None; params = []; obliv = false; body = Some body }
 
+-- `void oc_main(void)` whose body is these items, with one list of spots an item
 abbrev pub parsed_main : Spot → List (List Spot) → List Item → Function
 parsed_main spot spots items = function_with spot (parsed_items spots items)
 
@@ -107,12 +116,15 @@ abbrev pub slot_of : List ℕ → List Named → ℕ
 slot_of name [] = 0
 slot_of name (d ∷ ds) = if same_bytes name d.name then 0 else (slot_of name ds + 1)
 
+-- the type `int`, hidden or public
 abbrev pub int_type : Bool → CType
 int_type hidden = Int I32 hidden
 
+-- the place of an `int` variable, hidden or public, of this slot
 abbrev pub variable : Spot → Bool → ℕ → TPlace
 variable spot hidden slot = record { spot = spot; ty = int_type hidden; node = Slot slot }
 
+-- what an `int` variable holds, hidden or public, of this slot
 abbrev pub reading : Spot → Bool → ℕ → TExpr
 reading spot hidden slot = record { spot = spot; ty = int_type hidden; node = Read (variable spot hidden slot) }
 
@@ -127,12 +139,15 @@ abbrev pub fed : Spot → Spot → Spot → ℕ → TExpr
 fed spot private_spot zero_spot party =
     record { spot = spot; ty = int_type true; node = Builtin (Feed I32 party) (record { spot = private_spot; ty = Int I64 false; node = Builtin Private (record { spot = zero_spot; ty = int_type false; node = Number (pos 0) } ∷ []) } ∷ []) }
 
+-- a pointer to the public `int` variable of a slot; the second spot is that of the variable's name
 abbrev pub pointing : Spot → Spot → ℕ → TExpr
 pointing spot name_spot slot = record { spot = spot; ty = Pointer false (int_type false); node = AddressOf (variable name_spot false slot) }
 
+-- the statement that declares the variable of a slot, and its start; the second spot is that of the name
 abbrev pub declaring : Spot → Spot → ℕ → Option TExpr → Stmt
 declaring spot name slot init = record { spot = spot; node = Declare (record { spot = name; slot = slot; init = init } ∷ []) }
 
+-- the statement that is a call without a result; the second spot is that of the call
 abbrev pub calling : Spot → Spot → ExprNode → Stmt
 calling spot call_spot node = record { spot = spot; node = Express (record { spot = call_spot; ty = Nothing; node = node }) }
 
@@ -145,13 +160,16 @@ statement ds ss (Reveals target name more) =
 statement ds ss (Prints name) =
     calling (at ss 0) (at ss 1) (Builtin (Print (Decimal ∷ Text (10 ∷ []) ∷ [])) (reading (at ss 3) false (slot_of name ds) ∷ []))
 
+-- the typed statements of items after these names, with one list of spots an item
 abbrev pub statements : List Named → List (List Spot) → List Item → List Stmt
 statements ds spots [] = []
 statements ds spots (i ∷ is) = statement ds (first_of spots) i ∷ statements (ds ++ declared_by i) (drop 1 spots) is
 
+-- the type of a declared name's variable: `int`, hidden where the name is, and not frozen
 abbrev pub slot_type : Named → SlotType
 slot_type d = record { ty = int_type d.hidden; frozen = false }
 
+-- all that items declare, in order
 abbrev pub all_declared : List Item → List Named
 all_declared [] = []
 all_declared (i ∷ is) = declared_by i ++ all_declared is
@@ -160,5 +178,6 @@ all_declared (i ∷ is) = declared_by i ++ all_declared is
 abbrev pub main_with : List SlotType → List Stmt → TypedFunction
 main_with slots body = record { name = codes "oc_main"; result = Nothing; params = 0; slots = slots; obliv = false; body = body }
 
+-- the typed `oc_main` whose body is these items, with a variable for each name that they declare
 abbrev pub main_function : List (List Spot) → List Item → TypedFunction
 main_function spots items = main_with (map slot_type (all_declared items)) (statements [] spots items)

@@ -14,6 +14,7 @@ use Rattle.oblivc_main.specs.declared.deal.DealStop.TheVariants.{Unwritten, NoMe
 abbrev pub first_file : DealAsked → List ℕ
 first_file d = sender_file (sender_dealt d.key d.count)
 
+-- the bytes of the second file: those of the receiver's half
 abbrev pub second_file : DealAsked → List ℕ
 second_file d = receiver_file (receiver_dealt d.key d.count)
 
@@ -29,6 +30,7 @@ pub record Writing : Type 0 where
 abbrev pub HoldsBoth : Writing → DealAsked → Type 0
 HoldsBoth w d = Holds w.after d.second (second_file d) × (d.first ≢ d.second → Holds w.after d.first (first_file d))
 
+-- the name that the words give to a file
 abbrev pub file_name : DealAsked → DealFile → List ℕ
 file_name d FirstFile = d.first
 file_name d SecondFile = d.second

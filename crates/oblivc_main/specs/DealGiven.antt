@@ -5,6 +5,7 @@ use Rattle.oblivc_main.specs.declared.deal_words.DealOption.{DealOption}
 use Rattle.oblivc_main.specs.declared.deal_words.DealWords.{DealWords}
 use Rattle.oblivc_main.specs.declared.deal_words.Given.{Given}
 
+-- what the words ask for, by what was read of them
 abbrev pub deal_of : DealWords → DealAsked
 deal_of w = record { key = w.key; count = w.count; first = w.first.now; second = w.second.now }
 

@@ -14,6 +14,7 @@ pub record DealAsked : Type 0 where
   pub first : List ℕ
   pub second : List ℕ
 
+-- the word that names an option
 abbrev pub name_of : DealOption → List ℕ
 name_of Key = codes "--key"
 name_of Count = codes "--count"
@@ -47,18 +48,22 @@ pub record Wanted : Type 0 where
   pub first : Bool
   pub second : Bool
 
+-- each option is still wanted
 abbrev pub all_wanted : Wanted
 all_wanted = record { key = true; count = true; first = true; second = true }
 
+-- no option is wanted any more
 abbrev pub none_wanted : Wanted
 none_wanted = record { key = false; count = false; first = false; second = false }
 
+-- this option is still wanted
 abbrev pub wants : Wanted → DealOption → Bool
 wants w Key = w.key
 wants w Count = w.count
 wants w First = w.first
 wants w Second = w.second
 
+-- which options are wanted after this one was given
 abbrev pub without : Wanted → DealOption → Wanted
 without w Key = record w { key = false }
 without w Count = record w { count = false }
@@ -70,9 +75,11 @@ abbrev pub IsOrder : Wanted → List (DealOption × List ℕ) → Type 0
 IsOrder w [] = w ≡ none_wanted
 IsOrder w (o ∷ os) = (wants w o.0 ≡ true) × IsOrder (without w o.0) os
 
+-- an option's two words: its name and its value
 abbrev pub option_words : DealOption × List ℕ → List (List ℕ)
 option_words o = name_of o.0 ∷ o.1 ∷ []
 
+-- `deal` and the words of these options, in this order
 abbrev pub deal_words : List (DealOption × List ℕ) → List (List ℕ)
 deal_words options = codes "deal" ∷ flat_map option_words options
 
@@ -83,5 +90,6 @@ pub record IsDeal (words : List (List ℕ)) (d : DealAsked) : Type 0 where
   pub said : AllByRecursion (λ o. Says o.0 o.1 d) options
   pub text : words ≡ deal_words options
 
+-- the words are that command, whatever it asks for
 abbrev pub IsDealCommand : List (List ℕ) → Type 0
 IsDealCommand words = (d : DealAsked) × IsDeal words d

@@ -53,9 +53,11 @@ pub record Shows (f : Files) (items : List ShownItem) : Type 0 where
 abbrev pub PrintsAll : Files → Output → Type 0
 PrintsAll f o = (items : List ShownItem) × Shows f items × (o.after ≡ appended (shown items) o.before)
 
+-- nothing was printed
 abbrev pub PrintsNothing : Output → Type 0
 PrintsNothing o = o.after ≡ o.before
 
+-- a front of what the program shows was printed, which may be nothing or all of it
 abbrev pub PrintsFront : Files → Output → Type 0
 PrintsFront f o = (items : List ShownItem) × Shows f items × (n : ℕ) × (n ≤ length (shown items)) × (o.after ≡ appended (take n (shown items)) o.before)
 
@@ -65,6 +67,7 @@ named source first second Source = source
 named source first second First = first
 named source first second Second = second
 
+-- the name of a file of the call
 abbrev pub name_of : Files → Which → List ℕ
 name_of f which = named f.source f.first f.second which
 
@@ -74,9 +77,11 @@ ReadsUpTo f Source = Unit {0}
 ReadsUpTo f First = (t : Typed) × Accepts f.told f.source t
 ReadsUpTo f Second = (t : Typed) × Accepts f.told f.source t × (word : ℤ) × HasWord f.told f.first word
 
+-- this file can't be read, and those before it were read and have their form
 abbrev pub IsUnreadable : Files → Which → Type 0
 IsUnreadable f which = ReadsUpTo f which × Unreadable f.told f.faults_before f.faults_after f.failed (name_of f which)
 
+-- this input file hasn't the form of one word, and the files before it were read and have theirs
 abbrev pub IsWrong : Files → Which → Type 0
 IsWrong f Source = ⊥
 IsWrong f First = ReadsUpTo f First × HasNoWord f.told f.first

@@ -2,6 +2,7 @@
 use Rattle.std.specs.Prelude.{ℕ, zero, suc, List, [], ◌∷◌, Bool, true, false, ◌&&◌, codes}
 use Rattle.first_form.specs.Items.{same_bytes}
 
+-- the word may stand at this place, from 0, of `clear FILE --input1 F --input2 F`
 abbrev pub fits_at : ℕ → List ℕ → Bool
 fits_at zero word = same_bytes word (codes "clear")
 fits_at (suc zero) word = true

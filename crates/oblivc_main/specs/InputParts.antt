@@ -4,6 +4,7 @@ use Rattle.std.specs.List.{list_all}
 use Rattle.oc_values.specs.Integers.{is_in_bits}
 use Rattle.oblivc_main.specs.Inputs.{is_digit, decimal_value}
 
+-- the last byte is a newline
 abbrev pub has_end : List ℕ → Bool
 has_end bytes = not (nat_eq (length bytes) 0) && nat_eq (slice_index bytes (length bytes - 1)) 10
 
@@ -11,6 +12,7 @@ has_end bytes = not (nat_eq (length bytes) 0) && nat_eq (slice_index bytes (leng
 abbrev pub line_of : List ℕ → List ℕ
 line_of bytes = if has_end bytes then take (length bytes - 1) bytes else bytes
 
+-- the first byte is a minus
 abbrev pub is_minus : List ℕ → Bool
 is_minus [] = false
 is_minus (b ∷ bs) = nat_eq b 45

@@ -3,6 +3,7 @@ use Rattle.std.specs.Prelude.{ℕ, ◌+◌, ◌-◌, ◌*◌, ◌≡◌, ◌≤�
 use Rattle.std.specs.List.{list_all}
 use Rattle.oc_values.specs.Integers.{is_in_bits}
 
+-- an ASCII decimal digit
 abbrev pub is_digit : ℕ → Bool
 is_digit b = nat_le 48 b && nat_le b 57
 
@@ -10,14 +11,17 @@ is_digit b = nat_le 48 b && nat_le b 57
 abbrev pub decimal_value : List ℕ → ℕ
 decimal_value digits = fold (λ n b. 10 * n + (b - 48)) 0 digits
 
+-- the bytes of a sign: a minus, or none
 abbrev pub sign_of : Bool → List ℕ
 sign_of true = 45 ∷ []
 sign_of false = []
 
+-- the integer of a natural number, negated where there is a minus
 abbrev pub signed : Bool → ℕ → ℤ
 signed true n = neg_ℤ (pos n)
 signed false n = pos n
 
+-- the bytes that end a line: a newline, or none where it is missing
 abbrev pub line_end : Bool → List ℕ
 line_end true = 10 ∷ []
 line_end false = []

@@ -14,6 +14,7 @@ Told = List ℕ → Option (Option (List ℕ))
 abbrev pub Holds : Told → List ℕ → List ℕ → Type 0
 Holds told name bytes = IfSome (told name) (λ held. held ≡ Some bytes)
 
+-- the name holds nothing, where it is told
 abbrev pub IsAbsent : Told → List ℕ → Type 0
 IsAbsent told name = IfSome (told name) (λ held. held ≡ None)
 
@@ -21,6 +22,7 @@ IsAbsent told name = IfSome (told name) (λ held. held ≡ None)
 abbrev pub Accepts : Told → List ℕ → Typed → Type 0
 Accepts told file t = (source : List ℕ) × Holds told file source × IsAccepted source t
 
+-- the source of this name is refused so
 abbrev pub Refuses : Told → List ℕ → Refusal → Type 0
 Refuses told file r = (source : List ℕ) × Holds told file source × IsRefused source r
 
@@ -28,6 +30,7 @@ Refuses told file r = (source : List ℕ) × Holds told file source × IsRefused
 abbrev pub HasWord : Told → List ℕ → ℤ → Type 0
 HasWord told name word = (bytes : List ℕ) × Holds told name bytes × IsInput bytes word
 
+-- the input file hasn't the form of any word
 abbrev pub HasNoWord : Told → List ℕ → Type 0
 HasNoWord told name = (bytes : List ℕ) × Holds told name bytes × ((word : ℤ) → IsInput bytes word → ⊥)
 

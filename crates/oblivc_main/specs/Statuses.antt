@@ -67,21 +67,27 @@ SaysRefused e f = (r : Refusal) × Refuses f.told f.source r × Says e (refused_
 abbrev pub IsDone : Call → Type 0
 IsDone c = (OfCommand c (λ f. PrintsAll f c.out) ⊎ (OfDeal c HoldsBoth × PrintsNothing c.out)) × PrintsNothing c.err
 
+-- the source is refused: its line was said, and nothing was printed
 abbrev pub IsRefused : Call → Type 0
 IsRefused c = OfCommand c (λ f. SaysRefused c.err f) × PrintsNothing c.out
 
+-- the words aren't a command: `usage K` was said, and nothing was printed
 abbrev pub IsUsage : Call → Type 0
 IsUsage c = (k : ℕ) × Usage c.words k × PrintsNothing c.out × Says c.err (usage_line k)
 
+-- a file can't be read or written: the line with its name was said, and nothing was printed
 abbrev pub IsFileFault : Call → Type 0
 IsFileFault c = (OfCommand c (λ f. SaysFile c.err f) ⊎ OfDeal c (SaysUnwritable c.err)) × PrintsNothing c.out
 
+-- an input file hasn't the form of one word: the line was said, and nothing was printed
 abbrev pub IsWrongInput : Call → Type 0
 IsWrongInput c = OfCommand c (λ f. (which : Which) × IsWrong f which) × PrintsNothing c.out × Says c.err input_line
 
+-- want of memory: nothing was printed, or a front of what the program shows
 abbrev pub IsWithoutMemory : Call → Type 0
 IsWithoutMemory c = PrintsNothing c.out ⊎ OfCommand c (λ f. PrintsFront f c.out)
 
+-- the output's faults rose: the line was said, and a front of what the program shows was printed
 abbrev pub IsUnwritten : Call → Type 0
 IsUnwritten c = OfCommand c (λ f. PrintsFront f c.out) × Rose c.out.faults_before c.out.faults_after × Says c.err output_line
 
@@ -131,6 +137,7 @@ status_of (WrongInput which) = 9
 status_of Unwritten = 11
 status_of NoMemory = 10
 
+-- the line of a stop of `clear`, whose source and inputs have these names
 abbrev pub line_of : List ℕ → List ℕ → List ℕ → Stop → List ℕ
 line_of source first second (Refused r) = refused_line r
 line_of source first second (Unread which) = file_line (named source first second which)
@@ -143,6 +150,7 @@ abbrev pub deal_status_of : DealStop → ℕ
 deal_status_of (DealUnwritten file) = 5
 deal_status_of DealNoMemory = 10
 
+-- the line of a stop of `deal`
 abbrev pub deal_line_of : DealAsked → DealStop → List ℕ
 deal_line_of d (DealUnwritten file) = file_line (file_name d file)
 deal_line_of d DealNoMemory = memory_line

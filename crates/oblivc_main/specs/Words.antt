@@ -10,9 +10,11 @@ clear_words file first second = codes "clear" ∷ file ∷ codes "--input1" ∷ 
 abbrev pub IsClear : List (List ℕ) → List ℕ → List ℕ → List ℕ → Type 0
 IsClear words file first second = words ≡ clear_words file first second
 
+-- the words are that command, with some names
 abbrev pub IsClearCommand : List (List ℕ) → Type 0
 IsClearCommand words = (file : List ℕ) × (first : List ℕ) × (second : List ℕ) × IsClear words file first second
 
+-- the words are a command: `clear` or `deal`
 abbrev pub IsCommand : List (List ℕ) → Type 0
 IsCommand words = IsClearCommand words ⊎ IsDealCommand words
 
@@ -28,6 +30,7 @@ pub record UsageOf (IsOne : List (List ℕ) → Type 0) (words : List (List ℕ)
   pub begun : Begins IsOne (take k words)
   pub fault : k < length words → Begins IsOne (take (k + 1) words) → ⊥
 
+-- the words are no command: k is the least index such that none begins with words 0 to k, or their number
 abbrev pub Usage : List (List ℕ) → ℕ → Type 0
 Usage words k = UsageOf IsCommand words k
 
