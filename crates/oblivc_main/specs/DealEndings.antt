@@ -10,7 +10,7 @@ use Rattle.oblivc_main.specs.declared.deal.DealFile.TheVariants.{FirstFile, Seco
 use Rattle.oblivc_main.specs.declared.deal.DealStop.{DealStop}
 use Rattle.oblivc_main.specs.declared.deal.DealStop.TheVariants.{Unwritten, NoMemory}
 
--- the bytes of both files: those of the two halves that are dealt of the key
+-- the bytes of the first file: those of the sender's half
 abbrev pub first_file : DealAsked → List ℕ
 first_file d = sender_file (sender_dealt d.key d.count)
 
@@ -35,7 +35,7 @@ abbrev pub file_name : DealAsked → DealFile → List ℕ
 file_name d FirstFile = d.first
 file_name d SecondFile = d.second
 
--- what was written before a file, and that nothing else was
+-- what was written before a file; before the first one that nothing else was
 abbrev pub WritesUpTo : Writing → DealAsked → DealFile → Type 0
 WritesUpTo w d FirstFile = (n : List ℕ) → n ≢ d.first → w.after n ≡ w.before n
 WritesUpTo w d SecondFile = d.first ≢ d.second → Holds w.after d.first (first_file d)

@@ -49,7 +49,7 @@ pub record Shows (f : Files) (items : List ShownItem) : Type 0 where
   pub second_input : HasWord f.told f.second second_word
   pub meaning : Clear tree (setup_of first_word second_word) items Done
 
--- all was printed, or nothing, or a front of it
+-- all that the program shows was printed
 abbrev pub PrintsAll : Files → Output → Type 0
 PrintsAll f o = (items : List ShownItem) × Shows f items × (o.after ≡ appended (shown items) o.before)
 

@@ -18,7 +18,7 @@ Holds told name bytes = IfSome (told name) (λ held. held ≡ Some bytes)
 abbrev pub IsAbsent : Told → List ℕ → Type 0
 IsAbsent told name = IfSome (told name) (λ held. held ≡ None)
 
--- the source has this tree, or it is refused
+-- the source of this name has this tree, and breaks no rule
 abbrev pub Accepts : Told → List ℕ → Typed → Type 0
 Accepts told file t = (source : List ℕ) × Holds told file source × IsAccepted source t
 
@@ -26,7 +26,7 @@ Accepts told file t = (source : List ℕ) × Holds told file source × IsAccepte
 abbrev pub Refuses : Told → List ℕ → Refusal → Type 0
 Refuses told file r = (source : List ℕ) × Holds told file source × IsRefused source r
 
--- the input file has the form of one word, or it hasn't
+-- the input file has the form of this word
 abbrev pub HasWord : Told → List ℕ → ℤ → Type 0
 HasWord told name word = (bytes : List ℕ) × Holds told name bytes × IsInput bytes word
 

@@ -35,7 +35,7 @@ pub record Call : Type 0 where
 abbrev pub files_of : Call → List ℕ → List ℕ → List ℕ → Files
 files_of c source first second = record { told = c.told; faults_before = c.faults_before; faults_after = c.faults_after; failed = c.failed; source = source; first = first; second = second }
 
--- a fact of the files, where the words are a command
+-- the words are a `clear`, and this holds of its files
 abbrev pub OfCommand : Call → (Files → Type 0) → Type 0
 OfCommand c fact = (source : List ℕ) × (first : List ℕ) × (second : List ℕ) × IsClear c.words source first second × fact (files_of c source first second)
 
@@ -63,7 +63,7 @@ SaysUnwritable e w d = (file : DealFile) × IsUnwritable w d file × Says e (fil
 abbrev pub SaysRefused : Output → Files → Type 0
 SaysRefused e f = (r : Refusal) × Refuses f.told f.source r × Says e (refused_line r)
 
--- the cause of each status, and what was written
+-- all was printed, or both files of `deal` were written, and no line was said
 abbrev pub IsDone : Call → Type 0
 IsDone c = (OfCommand c (λ f. PrintsAll f c.out) ⊎ (OfDeal c HoldsBoth × PrintsNothing c.out)) × PrintsNothing c.err
 
@@ -129,7 +129,7 @@ Completes c status = OfCommand c HasForms ⊎ IsDealCommand c.words → IsFaultl
 abbrev pub Keeps : Call → Type 0
 Keeps c = (name : List ℕ) → (Makes c.words name → ⊥) → c.told_after name ≡ c.told name
 
--- the status of a stop, and its line
+-- the status of a stop of `clear`
 abbrev pub status_of : Stop → ℕ
 status_of (Refused r) = 1
 status_of (Unread which) = 5
@@ -145,7 +145,7 @@ line_of source first second (WrongInput which) = input_line
 line_of source first second Unwritten = output_line
 line_of source first second NoMemory = memory_line
 
--- the same of `deal`
+-- the status of a stop of `deal`
 abbrev pub deal_status_of : DealStop → ℕ
 deal_status_of (DealUnwritten file) = 5
 deal_status_of DealNoMemory = 10
