@@ -27,12 +27,15 @@ place_of i = 12 + 9 * i
 abbrev pub pair_at : List ℕ → ℕ → ℕ × ℕ
 pair_at key i = (label_at key (place_of i), label_at key (place_of i + 4))
 
+-- the receiver's bit of a transfer: the lowest bit of its ninth word
 abbrev pub bit_at : List ℕ → ℕ → Bool
 bit_at key i = nat_eq (word key (place_of i + 8) % 2) 1
 
+-- the one of two pads that belongs to a bit: the first to 0, the second to 1
 abbrev pub chosen : ℕ × ℕ → Bool → ℕ
 chosen pads bit = if bit then pads.1 else pads.0
 
+-- the receiver's pad of a transfer: the sender's pad of the receiver's bit
 abbrev pub pad_at : List ℕ → ℕ → ℕ
 pad_at key i = chosen (pair_at key i) (bit_at key i)
 
@@ -44,6 +47,7 @@ sender_dealt seed n = let key = key_of seed in record {
   pads = map (pair_at key) (range_with_len 0 n);
 }
 
+-- the receiver's half that a key gives, of so many transfers
 abbrev pub receiver_dealt : List ℕ → ℕ → Receiver
 receiver_dealt seed n = let key = key_of seed in record {
   tag = bytes_at key 0;

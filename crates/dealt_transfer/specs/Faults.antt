@@ -57,6 +57,7 @@ opening_checks magic at bytes =
     ends_before 4 bytes ∷ has_other_magic magic bytes ∷ ends_before 5 bytes ∷ has_other_version bytes
     ∷ ends_before (at + 4) bytes ∷ counts_too_many at bytes ∷ []
 
+-- the size of the file, which must be so many bytes
 abbrev pub size_checks : ℕ → List ℕ → List Check
 size_checks size bytes = ends_before size bytes ∷ goes_past size bytes ∷ []
 
@@ -68,12 +69,15 @@ bits_checks bits at bytes = ends_before (at + byte_count bits) bytes ∷ has_pad
 abbrev pub sender_size : ℕ → ℕ
 sender_size n = 57 + 32 * n
 
+-- the size of a receiver's file of so many transfers
 abbrev pub receiver_size : ℕ → ℕ
 receiver_size n = 25 + byte_count n + 16 * n
 
+-- the faults that a sender's file may have, in the order in which they are sought
 abbrev pub sender_checks : List ℕ → List Check
 sender_checks bytes = opening_checks sender_magic 53 bytes ++ size_checks (sender_size (count_at 53 bytes)) bytes
 
+-- the faults that a receiver's file may have, in the order in which they are sought
 abbrev pub receiver_checks : List ℕ → List Check
 receiver_checks bytes =
     let n = count_at 21 bytes in
@@ -83,5 +87,6 @@ receiver_checks bytes =
 unfoldable pub sender_fault : List ℕ → Option (HalfRule × ℕ)
 sender_fault bytes = first_found (sender_checks bytes)
 
+-- the form fault of a receiver's file, if it has one
 unfoldable pub receiver_fault : List ℕ → Option (HalfRule × ℕ)
 receiver_fault bytes = first_found (receiver_checks bytes)

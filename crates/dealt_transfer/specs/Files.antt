@@ -11,18 +11,23 @@ use Rattle.dealt_transfer.specs.Packing.{pack}
 unfoldable pub label_bytes : ℕ → List ℕ
 label_bytes label = to_le_bytes w128 label
 
+-- the bytes of both pads of a transfer, the pad of the bit 0 first
 abbrev pub pair_bytes : ℕ × ℕ → List ℕ
 pair_bytes pads = label_bytes pads.0 ++ label_bytes pads.1
 
+-- four bytes of a number, the highest first
 abbrev pub number_bytes : ℕ → List ℕ
 number_bytes n = to_be_bytes w32 n
 
+-- what a file begins with: its magic, and the version 1
 abbrev pub opening : List ℕ → List ℕ
 opening magic = magic ++ 1 ∷ []
 
+-- the four bytes that every sender's file begins with
 abbrev pub sender_magic : List ℕ
 sender_magic = codes "OCHG"
 
+-- the four bytes that every receiver's file begins with
 abbrev pub receiver_magic : List ℕ
 receiver_magic = codes "OCHE"
 
@@ -40,5 +45,6 @@ receiver_file half =
 abbrev pub Half1 : List ℕ → SenderHalf → Type 0
 Half1 bytes half = IsSender half × (bytes ≡ sender_file half)
 
+-- the bytes are the file of this receiver's half
 abbrev pub Half2 : List ℕ → Receiver → Type 0
 Half2 bytes half = IsReceiver half × (bytes ≡ receiver_file half)

@@ -14,12 +14,15 @@ pub record Receiver : Type 0 where
   pub bits : List Bool
   pub pads : List ℕ
 
+-- the tag, bits and pads of a receiver's half
 abbrev pub receiver : ReceiverHalf → Receiver
 receiver half = record { tag = half.tag; bits = half.bits; pads = half.pads }
 
+-- a label is a number below 2^128
 abbrev pub IsLabel : ℕ → Type 0
 IsLabel label = label < 2 ^ 128
 
+-- both pads of a transfer are labels
 abbrev pub IsPair : ℕ × ℕ → Type 0
 IsPair pads = IsLabel pads.0 × IsLabel pads.1
 
@@ -30,6 +33,7 @@ pub record IsSender (half : SenderHalf) : Type 0 where
   pub count : length half.pads ≤ most
   pub pads : AllByRecursion IsPair half.pads
 
+-- what has a receiver's file: a tag of 16 bytes, not too many pads, which are labels, and a bit for each pad
 pub record IsReceiver (half : Receiver) : Type 0 where
   pub tag : length half.tag ≡ 16
   pub count : length half.pads ≤ most

@@ -1,6 +1,7 @@
 -- Bits in bytes, eight to a byte, the low bit first.
 use Rattle.std.specs.Prelude.{ℕ, zero, suc, ◌+◌, ◌*◌, ◌/◌, ◌%◌, ◌^◌, Bool, true, false, nat_eq, List, [], ◌∷◌, length, take, drop, slice_index}
 
+-- a bit as a number: 1 where it is true, else 0
 abbrev pub bit : Bool → ℕ
 bit true = 1
 bit false = 0

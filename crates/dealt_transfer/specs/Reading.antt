@@ -15,6 +15,7 @@ ReadsSender bytes (Ok half) = Half1 bytes half
 ReadsSender bytes (Err (Form rule offset)) = sender_fault bytes ≡ Some (rule, offset)
 ReadsSender bytes (Err NoMemory) = Unit {0}
 
+-- a receiver's half whose file this is, or the file's form fault, or want of memory
 abbrev pub ReadsReceiver : List ℕ → Result ReceiverHalf HalfFault → Type 0
 ReadsReceiver bytes (Ok half) = Half2 bytes (receiver half)
 ReadsReceiver bytes (Err (Form rule offset)) = receiver_fault bytes ≡ Some (rule, offset)

@@ -8,9 +8,11 @@ use Rattle.dealt_transfer.specs.Dealing.{chosen}
 abbrev pub pads_of : SenderHalf → ℕ → ℕ × ℕ
 pads_of half i = slice_index_or half.pads i (0, 0)
 
+-- the receiver's bit of the transfer i
 abbrev pub bit_of : Receiver → ℕ → Bool
 bit_of half i = slice_index_or half.bits i false
 
+-- the receiver's pad of the transfer i
 abbrev pub pad_of : Receiver → ℕ → ℕ
 pad_of half i = slice_index half.pads i
 

@@ -26,6 +26,7 @@ blank_calls = record {
   and_is = λ s a b w t. t ≡ (s + 1) % 2 ^ 64;
 }
 
+-- a count that is one more, modulo 2^64, rose by one
 counted : (s t : ℕ) → t ≡ (s + 1) % 2 ^ 64 → Rises s 1 t
 counted s t e = omega (arith, e)
 
@@ -39,12 +40,15 @@ plain_laws = record {
   and_keeps = λ s t a b w v x g h. h;
 }
 
+-- a default wire stands for 0: the default bit is false
 pub plain_default : (s : ℕ) (w : Bool) → w ≡ false → w ≡ false
 plain_default s w h = h
 
+-- with wires that are bits an AND adds one to the count, and the room is always most_ands
 pub plain_counts : Counts plain_calls (λ (s : ℕ). s) (λ (s : ℕ). most_ands)
 plain_counts = record { and_made = λ s t a b w g. counted s t g.1; and_room = λ s t a b w g. omega arith }
 
+-- wires without anything keep the laws of a backend: each stands for every bit
 pub blank_laws : Laws blank_calls (λ (s : ℕ) (w : ⊤) (x : Bool). ⊤)
 blank_laws = record {
   known_stands = λ s x. tt;
@@ -54,8 +58,10 @@ blank_laws = record {
   and_keeps = λ s t a b w v x g h. tt;
 }
 
+-- a default wire stands for 0, as for every bit
 pub blank_default : (s : ℕ) (w : ⊤) → ⊤ → ⊤
 blank_default s w h = tt
 
+-- with wires without anything an AND adds one to the count, and the room is always most_ands
 pub blank_counts : Counts blank_calls (λ (s : ℕ). s) (λ (s : ℕ). most_ands)
 blank_counts = record { and_made = λ s t a b w g. counted s t g; and_room = λ s t a b w g. omega arith }

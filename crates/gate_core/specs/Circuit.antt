@@ -41,6 +41,7 @@ Plays m (flip x k) s r t = Plays m (k (m.not_wire s x)) s r t
 Plays m (join x y k) s r t = Plays m (k (m.xor_wire s x y)) s r t
 Plays {S} {W} m (meet x y k) s r t = (w : W) × (u : S) × m.and_is s x y w u × Plays m (k w) u r t
 
+-- whether two bits differ
 abbrev pub xor : Bool → Bool → Bool
 xor false y = y
 xor true y = not y

@@ -26,6 +26,7 @@ pub record Hashes : Type 0 where
 abbrev pub hash_a : Hashes → Bool → ℕ
 hash_a h x = if x then h.a1 else h.a0
 
+-- the hash's value at the label of b for this bit
 abbrev pub hash_b : Hashes → Bool → ℕ
 hash_b h y = if y then h.b1 else h.b0
 
@@ -50,6 +51,7 @@ zero_of h delta a b = and_label a b (row_g h delta b) (row_e h a) h.a0 h.b0
 abbrev pub tweak_a : ℕ → ℕ
 tweak_a gate = 2 * (gate % 2 ^ 63)
 
+-- the tweak of a gate for the labels of b, one more than that for the labels of a
 abbrev pub tweak_b : ℕ → ℕ
 tweak_b gate = 2 * (gate % 2 ^ 63) + 1
 

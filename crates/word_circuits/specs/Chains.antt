@@ -28,6 +28,7 @@ last_sum x y d i a = join (get_or x i d) a.carry (λ p. join p (get_or y i d) (�
 abbrev pub sums : {W : Type 0} → ℕ → List W → List W → W → Circuit W (List W)
 sums w x y c = then (chain x y c c (w - 1)) (last_sum x y c (w - 1))
 
+-- the sum of two words of w wires, modulo 2^w
 abbrev pub add_circuit : {W : Type 0} → ℕ → List W → List W → Circuit W (List W)
 add_circuit w x y = known false (λ low. sums w x y low)
 
@@ -35,9 +36,11 @@ add_circuit w x y = known false (λ low. sums w x y low)
 abbrev pub flips : {W : Type 0} → List W → W → ℕ → Circuit W (List W)
 flips x d n = row n (λ i. flip (get_or x i d) (λ w. give w))
 
+-- x minus y, modulo 2^w
 abbrev pub subtract_circuit : {W : Type 0} → ℕ → List W → List W → Circuit W (List W)
 subtract_circuit w x y = known true (λ high. then (flips y high w) (λ ny. sums w x ny high))
 
+-- minus x, modulo 2^w
 abbrev pub negate_circuit : {W : Type 0} → ℕ → List W → Circuit W (List W)
 negate_circuit w x = known false (λ low. subtract_circuit w (replicate w low) x)
 
@@ -55,14 +58,18 @@ less_circuit signed w x y = known true (λ high. then (turned signed w x high) (
 abbrev pub conjunction : {W : Type 0} → (ℕ → Circuit W W) → ℕ → Circuit W W
 conjunction f w = then (f 0) (times (w - 1) (λ i t. then (f (i + 1)) (λ z. meet t z (λ u. give u))))
 
+-- whether x and y have the same bit at the place i; d is for a place that isn't there
 abbrev pub alike : {W : Type 0} → List W → List W → W → ℕ → Circuit W W
 alike x y d i = join (get_or x i d) (get_or y i d) (λ p. flip p (λ z. give z))
 
+-- whether two words of w wires are equal, as a word of one wire
 abbrev pub equal_circuit : {W : Type 0} → ℕ → List W → List W → W → Circuit W (List W)
 equal_circuit w x y d = then (conjunction (alike x y d) w) (λ t. give (t ∷ []))
 
+-- the negation of the bit at the place i; d is for a place that isn't there
 abbrev pub other : {W : Type 0} → List W → W → ℕ → Circuit W W
 other x d i = flip (get_or x i d) (λ z. give z)
 
+-- whether a word of w wires isn't 0, as a word of one wire
 abbrev pub to_bool_circuit : {W : Type 0} → ℕ → List W → W → Circuit W (List W)
 to_bool_circuit w x d = then (conjunction (other x d) w) (λ t. flip t (λ r. give (r ∷ [])))

@@ -5,18 +5,23 @@ use Rattle.gate_core.specs.Circuit.Circuit.{give, known, flip, join, meet}
 use Rattle.word_circuits.specs.Chains.{flips}
 use Rattle.word_circuits.specs.Widths.{log2}
 
+-- the bits that are 1 in both of two words of w wires
 abbrev pub meet_circuit : {W : Type 0} → ℕ → List W → List W → W → Circuit W (List W)
 meet_circuit w x y d = row w (λ i. meet (get_or x i d) (get_or y i d) (λ r. give r))
 
+-- whether at least one of two bits is 1
 abbrev pub either_bit : {W : Type 0} → W → W → Circuit W W
 either_bit x y = flip x (λ nx. flip y (λ ny. meet nx ny (λ none. flip none (λ r. give r))))
 
+-- the bits that are 1 in at least one of two words of w wires
 abbrev pub either_circuit : {W : Type 0} → ℕ → List W → List W → W → Circuit W (List W)
 either_circuit w x y d = row w (λ i. either_bit (get_or x i d) (get_or y i d))
 
+-- the bits in which two words of w wires differ
 abbrev pub differ_circuit : {W : Type 0} → ℕ → List W → List W → W → Circuit W (List W)
 differ_circuit w x y d = row w (λ i. join (get_or x i d) (get_or y i d) (λ r. give r))
 
+-- each bit of a word of w wires, negated
 abbrev pub flip_circuit : {W : Type 0} → ℕ → List W → W → Circuit W (List W)
 flip_circuit w x d = flips x d w
 
@@ -24,6 +29,7 @@ flip_circuit w x d = flips x d w
 abbrev pub choose_bit : {W : Type 0} → W → W → W → W → Circuit W W
 choose_bit e x y z = join x y (λ p. meet e p (λ q. join z q (λ r. give r)))
 
+-- the first n wires of z, each turned where e is true and x and y differ in its place
 abbrev pub choose : {W : Type 0} → W → List W → List W → List W → W → ℕ → Circuit W (List W)
 choose e x y z d n = row n (λ i. choose_bit e (get_or x i d) (get_or y i d) (get_or z i d))
 

@@ -3,6 +3,7 @@ use Rattle.std.specs.Prelude.{◌≡◌, ℕ, zero, suc, ◌+◌, ◌-◌, ◌*�
 use Rattle.std.specs.Int.{int_div_euclid}
 use Rattle.gate_core.specs.Relations.{All2}
 
+-- a bit as a number: 1 where it is true, else 0
 abbrev pub bit : Bool → ℕ
 bit false = 0
 bit true = 1
@@ -21,6 +22,7 @@ residue w (negsuc n) = 2 ^ w - 1 - n % 2 ^ w
 abbrev pub signed_value : ℕ → ℕ → ℤ
 signed_value w n = if nat_lt n (2 ^ (w - 1)) then pos n else (pos n -ℤ pos (2 ^ w))
 
+-- the integer that w bits stand for, with a sign or without, where they spell n
 abbrev pub value_of_bits : Bool → ℕ → ℕ → ℤ
 value_of_bits true w n = signed_value w n
 value_of_bits false w n = pos n
@@ -33,11 +35,13 @@ wrap signed w z = value_of_bits signed w (residue w z)
 abbrev pub Means : {W : Type 0} → (W → Bool → Type 0) → Bool → List W → ℤ → Type 0
 Means stands signed ws z = (bs : List Bool) × All2 stands ws bs × (value_of_bits signed (length bs) (value bs) ≡ z)
 
+-- whether an integer is 0
 abbrev pub is_zero : ℤ → Bool
 is_zero (pos zero) = true
 is_zero (pos (suc n)) = false
 is_zero (negsuc n) = false
 
+-- a truth value as an integer: 1 for true, 0 for false
 abbrev pub number_of : Bool → ℤ
 number_of true = pos 1
 number_of false = pos 0
