@@ -19,11 +19,11 @@ label_at key place =
 abbrev pub bytes_at : List ℕ → ℕ → List ℕ
 bytes_at key place = label_bytes (label_at key place)
 
--- the words before the transfers are the tag's four and the coin key's eight; a transfer has nine
+-- the first word of a transfer: before all stand the tag's four and the coin key's eight, and each transfer has nine
 abbrev pub place_of : ℕ → ℕ
 place_of i = 12 + 9 * i
 
--- both pads of a transfer, its bit, and the pad of that bit
+-- both pads of a transfer
 abbrev pub pair_at : List ℕ → ℕ → ℕ × ℕ
 pair_at key i = (label_at key (place_of i), label_at key (place_of i + 4))
 
@@ -39,7 +39,7 @@ chosen pads bit = if bit then pads.1 else pads.0
 abbrev pub pad_at : List ℕ → ℕ → ℕ
 pad_at key i = chosen (pair_at key i) (bit_at key i)
 
--- the halves of a key
+-- the sender's half that a key gives, of so many transfers
 abbrev pub sender_dealt : List ℕ → ℕ → SenderHalf
 sender_dealt seed n = let key = key_of seed in record {
   tag = bytes_at key 0;

@@ -65,7 +65,7 @@ size_checks size bytes = ends_before size bytes ∷ goes_past size bytes ∷ []
 abbrev pub bits_checks : ℕ → ℕ → List ℕ → List Check
 bits_checks bits at bytes = ends_before (at + byte_count bits) bytes ∷ has_padding bits at bytes ∷ []
 
--- the size of a sender's file of so many transfers, and of a receiver's
+-- the size of a sender's file of so many transfers
 abbrev pub sender_size : ℕ → ℕ
 sender_size n = 57 + 32 * n
 
@@ -83,7 +83,7 @@ receiver_checks bytes =
     let n = count_at 21 bytes in
     opening_checks receiver_magic 21 bytes ++ (bits_checks n 25 bytes ++ size_checks (receiver_size n) bytes)
 
--- the form fault of a file, if it has one
+-- the form fault of a sender's file, if it has one
 unfoldable pub sender_fault : List ℕ → Option (HalfRule × ℕ)
 sender_fault bytes = first_found (sender_checks bytes)
 

@@ -41,7 +41,7 @@ unfoldable pub receiver_file : Receiver → List ℕ
 receiver_file half =
     opening receiver_magic ++ (half.tag ++ (number_bytes (length half.pads) ++ (pack half.bits ++ flat_map label_bytes half.pads)))
 
--- the bytes are the file of this half
+-- the bytes are the file of this sender's half
 abbrev pub Half1 : List ℕ → SenderHalf → Type 0
 Half1 bytes half = IsSender half × (bytes ≡ sender_file half)
 

@@ -26,7 +26,7 @@ IsLabel label = label < 2 ^ 128
 abbrev pub IsPair : ℕ × ℕ → Type 0
 IsPair pads = IsLabel pads.0 × IsLabel pads.1
 
--- what has a file: a tag of 16 bytes, a coin key of 32, and not too many pads, which are labels
+-- a sender's half that has a file: a tag of 16 bytes, a coin key of 32, and not too many pads, which are labels
 pub record IsSender (half : SenderHalf) : Type 0 where
   pub tag : length half.tag ≡ 16
   pub coin_key : length half.coin_key ≡ 32

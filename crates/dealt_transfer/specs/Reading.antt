@@ -9,7 +9,7 @@ use Rattle.dealt_transfer.specs.Halves.{receiver}
 use Rattle.dealt_transfer.specs.Files.{Half1, Half2}
 use Rattle.dealt_transfer.specs.Faults.{sender_fault, receiver_fault}
 
--- a half whose file this is, or the file's form fault, or want of memory
+-- a sender's half whose file this is, or the file's form fault, or want of memory
 abbrev pub ReadsSender : List ℕ → Result SenderHalf HalfFault → Type 0
 ReadsSender bytes (Ok half) = Half1 bytes half
 ReadsSender bytes (Err (Form rule offset)) = sender_fault bytes ≡ Some (rule, offset)

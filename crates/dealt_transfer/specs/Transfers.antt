@@ -4,7 +4,7 @@ use Rattle.dealt_transfer.specs.declared.half.SenderHalf.{SenderHalf}
 use Rattle.dealt_transfer.specs.Halves.{Receiver}
 use Rattle.dealt_transfer.specs.Dealing.{chosen}
 
--- both pads of the sender, and the receiver's bit and pad
+-- the sender's pads of the transfer i
 abbrev pub pads_of : SenderHalf → ℕ → ℕ × ℕ
 pads_of half i = slice_index_or half.pads i (0, 0)
 

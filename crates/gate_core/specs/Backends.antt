@@ -30,7 +30,7 @@ blank_calls = record {
 counted : (s t : ℕ) → t ≡ (s + 1) % 2 ^ 64 → Rises s 1 t
 counted s t e = omega (arith, e)
 
--- they keep the laws of a backend
+-- wires that are bits keep the laws of a backend
 pub plain_laws : Laws plain_calls (λ (s : ℕ) (w x : Bool). w ≡ x)
 plain_laws = record {
   known_stands = λ s x. refl;

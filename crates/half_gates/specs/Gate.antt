@@ -22,7 +22,7 @@ pub record Hashes : Type 0 where
   pub b0 : ℕ
   pub b1 : ℕ
 
--- the hash's value at the label of a for this bit, and at that of b
+-- the hash's value at the label of a for this bit
 abbrev pub hash_a : Hashes → Bool → ℕ
 hash_a h x = if x then h.a1 else h.a0
 
@@ -47,7 +47,7 @@ and_label a b tg te ha hb =
 abbrev pub zero_of : Hashes → ℕ → ℕ → ℕ → ℕ
 zero_of h delta a b = and_label a b (row_g h delta b) (row_e h a) h.a0 h.b0
 
--- the tweaks of a gate, of which there are two for each number modulo 2^63
+-- the tweak of a gate for the labels of a; each number modulo 2^63 has two tweaks
 abbrev pub tweak_a : ℕ → ℕ
 tweak_a gate = 2 * (gate % 2 ^ 63)
 
@@ -64,7 +64,7 @@ hashes_of delta a b gate = record {
   b1 = hash_of (bit_xor b delta) (tweak_b gate);
 }
 
--- whatever the hash's four values are: on the active labels for x and y, the rows make the active label for x and y
+-- with these four values of the hash: on the active labels for x and y, the rows make the active label for x and y
 abbrev pub MakesAnd : Hashes → ℕ → ℕ → ℕ → Type 0
 MakesAnd h delta a b = (x y : Bool)
     → and_label (active a delta x) (active b delta y) (row_g h delta b) (row_e h a) (hash_a h x) (hash_b h y)

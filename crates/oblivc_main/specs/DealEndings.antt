@@ -35,7 +35,7 @@ abbrev pub file_name : DealAsked → DealFile → List ℕ
 file_name d FirstFile = d.first
 file_name d SecondFile = d.second
 
--- what was written before a file; before the first one that nothing else was
+-- what was written before a file: before the first one nothing else, before the second one the first one
 abbrev pub WritesUpTo : Writing → DealAsked → DealFile → Type 0
 WritesUpTo w d FirstFile = (n : List ℕ) → n ≢ d.first → w.after n ≡ w.before n
 WritesUpTo w d SecondFile = d.first ≢ d.second → Holds w.after d.first (first_file d)

@@ -32,7 +32,7 @@ sums w x y c = then (chain x y c c (w - 1)) (last_sum x y c (w - 1))
 abbrev pub add_circuit : {W : Type 0} → ℕ → List W → List W → Circuit W (List W)
 add_circuit w x y = known false (λ low. sums w x y low)
 
--- the other bits of the first n
+-- the negations of the first n bits
 abbrev pub flips : {W : Type 0} → List W → W → ℕ → Circuit W (List W)
 flips x d n = row n (λ i. flip (get_or x i d) (λ w. give w))
 

@@ -21,7 +21,7 @@ abbrev pub divide_step : {W : Type 0} → ℕ → List W → List W → W → �
 divide_step w x ny high i a =
     then (divide_bit (get_or x (w - 1 - i) high) ny high a.rest w) (λ r. give (record { quotient = r.0 ∷ a.quotient; rest = r.1 }))
 
--- both, without a sign, from the top bit of the dividend down
+-- the quotient and the rest of two words without a sign, from the top bit of the dividend down
 abbrev pub divide_circuit : {W : Type 0} → ℕ → List W → List W → Circuit W (Divided W)
 divide_circuit w x y = known false (λ low. known true (λ high.
     then (flips (y ++ low ∷ []) high (w + 1)) (λ ny.

@@ -94,7 +94,7 @@ ands_of Flip w = 0
 ands_of ShiftKnown w = 0
 ands_of Resize w = 0
 
--- the name of an operation in the table
+-- the operation by the name under which its gates are counted
 abbrev pub word_op : Operation → WordOp
 word_op op_add = Add
 word_op op_subtract = Subtract
