@@ -36,6 +36,7 @@ use Rattle.clear_run.specs.declared.machine.Fault.TheVariants.{Ended as Stopped,
 abbrev pub ClearState : Type 0
 ClearState = State ℤ (List ShownItem)
 
+-- a machine's state as that of a walk, with the slots newest first
 abbrev pub state : Machine → ClearState
 state m = record { mem = record { blocks = m.blocks; dealt = m.dealt; answers = []; taken = 0; own = m.shown }; entered = reverse m.entered; steps = m.steps }
 
@@ -95,6 +96,7 @@ source_in (e ∷ es) = source_at e.spot e.node
 
 -- the values of expressions, in order
 module _ (D : Domain) where
+  -- the walk of expressions from left to right, whose result is their values
   abbrev pub wholes : Around D → List TExpr → A D (List (V D))
   wholes w [] = pure []
   wholes w (e ∷ es) = bind (whole D w e) (λ v. bind (wholes w es) (λ vs. pure (v ∷ vs)))
@@ -103,12 +105,15 @@ module _ (D : Domain) where
 pub record Walks {A : Type 0} (s : ClearSetup) (walk : Around (clear s.first s.second) → Act ClearState A) (m : Machine) (result : Result A Fault) (new : Machine) : Type 0 where
   pub does : (slots : List SlotType) (room : ℕ) → Does (walk (around s slots room) (state m)) result (state new)
 
+-- the code gives the value of an expression as its walk does
 pub record RunsExpr (s : ClearSetup) (e : TExpr) (m : Machine) (result : Result (Value ℤ) Fault) (new : Machine) : Type 0 where
   pub runs : Walks s (λ w. whole (clear s.first s.second) w e) m result new
 
+-- the code gives the address of a place as its walk does
 pub record RunsPlace (s : ClearSetup) (e : TPlace) (m : Machine) (result : Result Address Fault) (new : Machine) : Type 0 where
   pub runs : Walks s (λ w. place (clear s.first s.second) w e.spot e.ty e.node) m result new
 
+-- the code gives the values of expressions, in order, as their walk does
 pub record RunsExprs (s : ClearSetup) (es : List TExpr) (m : Machine) (result : Result (List (Value ℤ)) Fault) (new : Machine) : Type 0 where
   pub runs : Walks s (λ w. wholes (clear s.first s.second) w es) m result new
 
@@ -120,15 +125,19 @@ pub record Valued (s : ClearSetup) (es : List TExpr) (m : Machine) (values : Lis
 pub record WalksIn {A : Type 0} (s : ClearSetup) (slots : List SlotType) (walk : Around (clear s.first s.second) → Act ClearState A) (m : Machine) (result : Result A Fault) (new : Machine) : Type 0 where
   pub does : (room : ℕ) → Does (walk (around s slots room) (state m)) result (state new)
 
+-- the code makes and initialises a variable as its walk does
 pub record RunsDeclared (s : ClearSetup) (slots : List SlotType) (d : Declared) (m : Machine) (result : Result (Unit {0}) Fault) (new : Machine) : Type 0 where
   pub runs : WalksIn s slots (λ w. declares (clear s.first s.second) w d) m result new
 
+-- the code makes and initialises the variables of a declaration, in order, as their walk does
 pub record RunsDeclares (s : ClearSetup) (slots : List SlotType) (ds : List Declared) (m : Machine) (result : Result Flow Fault) (new : Machine) : Type 0 where
   pub runs : WalksIn s slots (λ w. declares_all (clear s.first s.second) w ds) m result new
 
+-- the code runs a statement with its step as its walk does
 pub record RunsStmt (s : ClearSetup) (slots : List SlotType) (t : Stmt) (m : Machine) (result : Result Flow Fault) (new : Machine) : Type 0 where
   pub runs : WalksIn s slots (λ w. stepped (clear s.first s.second) w t) m result new
 
+-- the code runs the statements of a body, in order, as their walk does
 pub record RunsBody (s : ClearSetup) (slots : List SlotType) (ts : List Stmt) (m : Machine) (result : Result Flow Fault) (new : Machine) : Type 0 where
   pub runs : WalksIn s slots (λ w. listed (clear s.first s.second) w ts) m result new
 
@@ -136,6 +145,7 @@ pub record RunsBody (s : ClearSetup) (slots : List SlotType) (ts : List Stmt) (m
 pub record Declaring (s : ClearSetup) (slots : List SlotType) (ds : List Declared) (m : Machine) (left : List Declared) (new : Machine) : Type 0 where
   pub does : (room : ℕ) → declares_all (clear s.first s.second) (around s slots room) ds (state m) ≡ declares_all (clear s.first s.second) (around s slots room) left (state new)
 
+-- after some of the statements of a body, these are left
 pub record Passing (s : ClearSetup) (slots : List SlotType) (ts : List Stmt) (m : Machine) (left : List Stmt) (new : Machine) : Type 0 where
   pub does : (room : ℕ) → listed (clear s.first s.second) (around s slots room) ts (state m) ≡ listed (clear s.first s.second) (around s slots room) left (state new)
 

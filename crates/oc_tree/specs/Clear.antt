@@ -31,9 +31,11 @@ clear first second = record {
   print = λ bytes o. o ++ Print bytes ∷ [];
 }
 
+-- what both parties know of a setup: the public words, and how many private words each party has
 abbrev pub known_of : ClearSetup → Known
 known_of s = record { public = s.public; first = length s.first; second = length s.second }
 
+-- the walk of a program in the clear, from a setup's words, dealt transfers and step budget
 abbrev pub clear_walk : Typed → ClearSetup → Res (State ℤ (List ShownItem)) (Value ℤ)
 clear_walk t s = walk (clear s.first s.second) t (known_of s) s.dealt [] s.budget []
 

@@ -3,6 +3,7 @@ use Rattle.std.specs.Prelude.{ℕ, ℤ, List, Option}
 use Rattle.oc_values.specs.declared.integers.IntKind.{IntKind}
 use Rattle.oc_values.specs.declared.integers.BinaryOp.{BinaryOp}
 
+-- what hidden values are to a walk, and what is done with them
 pub record Domain : Type 1 where
   pub Hidden : Type 0
   -- under what a hidden cell is written

@@ -13,6 +13,7 @@ abbrev mutual
   cells ss (Struct n) = slice_index_or ss n 0
   cells ss Nothing = 0
 
+  -- how many cells the first type of a row takes, which is 0 where the row is empty
   pub cells_row : {m : _} → List ℕ → Row_of-CType m → ℕ
   cells_row ss (more_of-CType t ts) = cells ss t
   cells_row ss end_of-CType = 0
@@ -54,6 +55,7 @@ abbrev mutual
   leaves ss (Struct n) = or_none (slice_get ss n)
   leaves ss Nothing = []
 
+  -- the leaves of the first type of a row, of which an empty row has none
   pub leaves_row : {m : _} → List (List CType) → Row_of-CType m → List CType
   leaves_row ss (more_of-CType t ts) = leaves ss t
   leaves_row ss end_of-CType = []

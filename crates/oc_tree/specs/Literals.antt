@@ -13,5 +13,6 @@ is_literal_kind k = same_kind k I32 || same_kind k U32 || same_kind k I64 || sam
 abbrev pub holds : IntKind → ℕ → Bool
 holds k n = is_in_bits (is_signed k) (width k) (pos n)
 
+-- whether a literal can have this kind and value: the kind is a literal's, and it holds the value
 abbrev pub is_literal : IntKind → ℕ → Bool
 is_literal k n = is_literal_kind k && holds k n

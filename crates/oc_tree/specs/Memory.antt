@@ -125,6 +125,7 @@ weight (Live allocated []) = 1
 weight (Live allocated (c ∷ cs)) = length (c ∷ cs)
 weight Gone = 0
 
+-- how many cells live in these blocks together, where a live block without cells counts as one
 abbrev pub living : {H : Type 0} → List (Block H) → ℕ
 living [] = 0
 living (b ∷ bs) = weight b + living bs

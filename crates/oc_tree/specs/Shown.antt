@@ -16,10 +16,12 @@ shown_item (Print bytes) = bytes
 shown_item (Reveal k n) = []
 shown_item (Give party k n) = result_line party n
 
+-- what a run in the clear prints of these items, in order
 abbrev pub shown : List ShownItem → List ℕ
 shown [] = []
 shown (i ∷ is) = shown_item i ++ shown is
 
+-- the exit status of a run that ends so
 abbrev pub status : Outcome → ℕ
 status Done = 0
 status (Trap kind spot) = 3

@@ -42,6 +42,7 @@ abbrev mutual
   same marks Nothing Nothing = true
   same marks _ _ = false
 
+  -- whether two rows both have a first type and these are equal, where the marks count or not
   pub same_row : {m n : _} → Bool → Row_of-CType m → Row_of-CType n → Bool
   same_row marks (more_of-CType t ts) (more_of-CType s ss) = same marks t s
   same_row marks _ _ = false
@@ -64,6 +65,7 @@ abbrev mutual
   holds_public ss (Struct n) = slice_index_or ss n false
   holds_public ss Nothing = false
 
+  -- whether a row has a first type that holds public data, given this of each struct
   pub holds_public_row : {m : _} → List Bool → Row_of-CType m → Bool
   holds_public_row ss (more_of-CType t ts) = holds_public ss t
   holds_public_row ss end_of-CType = false
@@ -91,6 +93,7 @@ abbrev mutual
   freeze ss (Struct n) = Struct n
   freeze ss Nothing = Nothing
 
+  -- the row with the frozen form of its first type, if it has one
   pub freeze_row : {m : _} → List Bool → Row_of-CType m → Row_of-CType m
   freeze_row ss (more_of-CType t ts) = more_of-CType (freeze ss t) ts
   freeze_row ss end_of-CType = end_of-CType
@@ -110,6 +113,7 @@ abbrev mutual
   is_normal ss inside (Struct n) = true
   is_normal ss inside Nothing = true
 
+  -- whether the first type of a row, if it has one, is in normal form, inside a frozen pointer or not
   pub is_normal_row : {m : _} → List Bool → Bool → Row_of-CType m → Bool
   is_normal_row ss inside (more_of-CType t ts) = is_normal ss inside t
   is_normal_row ss inside end_of-CType = true
@@ -123,6 +127,7 @@ abbrev mutual
   all_frozen (Struct n) = Struct n
   all_frozen Nothing = Nothing
 
+  -- the row with every pointer of its first type frozen
   pub all_frozen_row : {m : _} → Row_of-CType m → Row_of-CType m
   all_frozen_row (more_of-CType t ts) = more_of-CType (all_frozen t) ts
   all_frozen_row end_of-CType = end_of-CType
@@ -136,6 +141,7 @@ abbrev mutual
   normal ss inside (Struct n) = Struct n
   normal ss inside Nothing = Nothing
 
+  -- the row with the normal form of its first type, if it has one, inside a frozen pointer or not
   pub normal_row : {m : _} → List Bool → Bool → Row_of-CType m → Row_of-CType m
   normal_row ss inside (more_of-CType t ts) = more_of-CType (normal ss inside t) ts
   normal_row ss inside end_of-CType = end_of-CType

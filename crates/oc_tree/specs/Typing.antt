@@ -25,6 +25,7 @@ use Rattle.oc_tree.specs.Types.{same, same_row, same_kind}
 abbrev pub is_promoted : IntKind → Bool
 is_promoted k = same_kind k I32 || same_kind k U32 || same_kind k I64 || same_kind k U64
 
+-- whether an operator is addition or subtraction
 abbrev pub is_sum : BinaryOp → Bool
 is_sum Add = true
 is_sum Sub = true
@@ -35,9 +36,11 @@ abbrev pub typed_operator : BinaryOp → CType → CType → CType → Bool
 typed_operator op (Int k o) l r = is_sum op && is_promoted k && same true (Int k o) l && same true (Int k o) r
 typed_operator op _ l r = false
 
+-- whether a party has this number, which is 1 or 2
 abbrev pub is_party : ℕ → Bool
 is_party n = nat_eq n 1 || nat_eq n 2
 
+-- whether the slot is there and its variable has this type, marks included
 abbrev pub is_of_slot : CType → Option SlotType → Bool
 is_of_slot t (Some s) = same true t s.ty
 is_of_slot t None = false
@@ -70,6 +73,7 @@ abbrev mutual
   typed_expr ss Nothing (Builtin' (Print ps) _ es) = printed ss ps es
   typed_expr ss _ _ = false
 
+  -- exactly one expression, well typed at the type that stands with it
   pub typed_one : {m : _} → List SlotType → Row_of-TExpr m → Bool
   typed_one ss (more_of-TExpr q u c end_of-TExpr) = typed_expr ss u c
   typed_one ss _ = false
@@ -79,6 +83,7 @@ abbrev mutual
   fed ss (more_of-TExpr q (Int I64 false) (Builtin' Private _ es) end_of-TExpr) = indexed ss es
   fed ss _ = false
 
+  -- the index of a private word: exactly one expression, a public integer
   pub indexed : {m : _} → List SlotType → Row_of-TExpr m → Bool
   indexed ss (more_of-TExpr q (Int k false) c end_of-TExpr) = typed_expr ss (Int k false) c
   indexed ss _ = false
@@ -96,10 +101,12 @@ abbrev mutual
   printed ss (Decimal ∷ ps) (more_of-TExpr q (Int k false) c rest) = same_kind k I32 && typed_expr ss (Int k false) c && printed ss ps rest
   printed ss _ _ = false
 
+  -- a place that holds this type, where these slots are visible
   pub typed_place : List SlotType → CType → PlaceNode → Bool
   typed_place ss t (Slot n) = is_of_slot t (slice_get ss n)
   typed_place ss t (Deref' _ e) = dereferenced ss t e
 
+  -- exactly one expression, a pointer to this type, frozen or not
   pub dereferenced : {m : _} → List SlotType → CType → Row_of-TExpr m → Bool
   dereferenced ss t (more_of-TExpr q (Pointer' f u to) c end_of-TExpr) = same_row true to (more_of-CType t end_of-CType) && typed_expr ss (Pointer' f u to) c
   dereferenced ss t _ = false
@@ -115,10 +122,12 @@ abbrev pub typed_names : List SlotType → ℕ → List Declared → Bool
 typed_names ss n [] = true
 typed_names ss n (d ∷ ds) = nat_eq d.slot n && typed_start (take (n + 1) ss) (slice_get ss n) d.init && typed_names ss (n + 1) ds
 
+-- a well typed statement, before which n slots are taken, and whose names take the next ones
 abbrev pub typed_node : List SlotType → ℕ → StmtNode → Bool
 typed_node ss n (Declare ds) = typed_names ss n ds
 typed_node ss n (Express e) = typed_expr (take n ss) e.ty e.node
 
+-- how many names a statement declares
 abbrev pub names_of : StmtNode → ℕ
 names_of (Declare ds) = length ds
 names_of (Express e) = 0
@@ -128,13 +137,16 @@ abbrev pub typed_body : List SlotType → ℕ → List Stmt → Bool
 typed_body ss n [] = nat_eq n (length ss)
 typed_body ss n (s ∷ more) = typed_node ss n s.node && typed_body ss (n + names_of s.node) more
 
+-- a function's parameters take its first slots, and its well typed body takes exactly the others
 abbrev pub typed_function : TypedFunction → Bool
 typed_function f = nat_le f.params (length f.slots) && typed_body f.slots f.params f.body
 
+-- each of these functions is well typed
 abbrev pub typed_functions : List TypedFunction → Bool
 typed_functions [] = true
 typed_functions (f ∷ fs) = typed_function f && typed_functions fs
 
+-- whether a type is that of no value
 abbrev pub is_nothing : CType → Bool
 is_nothing Nothing = true
 is_nothing _ = false
@@ -144,5 +156,6 @@ abbrev pub is_entry : Option TypedFunction → Bool
 is_entry (Some f) = is_nothing f.result && nat_eq f.params 0 && not f.obliv
 is_entry None = false
 
+-- a well typed program: each function is, and a run can start with the one of this number
 abbrev pub is_typed : List TypedFunction → ℕ → Bool
 is_typed functions entry = is_entry (slice_get functions entry) && typed_functions functions

@@ -17,6 +17,7 @@ use Rattle.oc_tree.specs.declared.typed.PrintPiece.{PrintPiece}
 use Rattle.oc_tree.specs.declared.typed.PrintPiece.TheVariants.{Text, Decimal}
 use Rattle.oc_tree.specs.Walking.{Mem, State, Act, bind, pure, trap, loads, stores, block_of}
 
+-- trap M5 at this spot, for a value of another form than is wanted
 abbrev pub wrong : {T R : Type 0} → Spot → Act T R
 wrong p = trap M5 p
 
@@ -27,6 +28,7 @@ valued p (CInt k true) (CellHidden h) = pure (Hidden k h)
 valued p (Pointer' f u t) (CellPointer a) = pure (Pointer a)
 valued p _ _ = wrong p
 
+-- the value of the cell at this address, which is read with this type
 abbrev pub reads : {H O : Type 0} → Spot → CType → Address → Act (Mem H O) (Value H)
 reads p ty a = bind (loads p a ty) (λ v. valued p ty v)
 
@@ -37,6 +39,7 @@ initializes p ty a (Pointer b) = stores p a ty (CellPointer b)
 initializes p ty a (Hidden k h) = stores p a ty (CellHidden h)
 initializes p ty a Nothing = wrong p
 
+-- a number as a value of its type, which is that of a public integer
 abbrev pub constant : {H T : Type 0} → Spot → CType → ℤ → Act T (Value H)
 constant p (CInt k false) n = pure (Int k n)
 constant p _ n = wrong p
@@ -52,6 +55,7 @@ abbrev pub variable : {T : Type 0} → Spot → Option ℕ → Act T Address
 variable p (Some b) = pure (At b 0)
 variable p None = trap M2 p
 
+-- the address of the variable that was entered last under this slot's number
 abbrev pub slot : {H O : Type 0} → Spot → ℕ → Act (State H O) Address
 slot p n s = variable p (block_of n s.entered) s
 

@@ -42,6 +42,7 @@ pub record Known : Type 0 where
   pub first : ℕ
   pub second : ℕ
 
+-- how many private words the party of this number has
 abbrev pub count_of : Known → ℕ → ℕ
 count_of k (suc zero) = k.first
 count_of k _ = k.second
@@ -62,15 +63,19 @@ source_of (more_of-TExpr q u c rest) = source_at q c
 source_of end_of-TExpr = Shared
 
 module _ (D : Domain) where
+  -- the value of an expression, with the domain's hidden values
   abbrev pub V : Type 0
   V = Value D.Hidden
 
+  -- what the actions on memory work on, with the domain's hidden values and its own state
   abbrev pub M : Type 0
   M = Mem D.Hidden D.Own
 
+  -- the state of a walk over the domain
   abbrev pub S : Type 0
   S = State D.Hidden D.Own
 
+  -- an action of a walk over the domain, whose result is of this type
   abbrev pub A : Type 0 → Type 0
   A T = Act S T
 
@@ -81,6 +86,7 @@ module _ (D : Domain) where
     pub enable : D.Enable
     pub room : ℕ
 
+  -- what surrounds a node's parts: the same with one less of room
   abbrev pub deeper : Around → Around
   deeper w = record w { room = w.room - 1 }
 
@@ -90,9 +96,11 @@ module _ (D : Domain) where
   sums p true op (Hidden k x) (Hidden l y) = bind (own (D.binary op k x y)) (λ h. pure (Hidden k h))
   sums p _ op _ _ = wrong p
 
+  -- a binary operator on two values: a sum or a difference, and trap M5 for every other operator
   abbrev pub operates : Spot → BinaryOp → V → V → Act M V
   operates p op x y = sums p (is_sum op) op x y
 
+  -- a private word, which uses its transfers, where its index is within the party's count, else trap I1
   abbrev pub counted : Spot → Bool → ℕ → IntKind → ℕ → Act M V
   counted q true party k i = bind (transfers (cost party k)) (λ _. bind (own (D.feed party k i)) (λ h. pure (Hidden k h)))
   counted q false party k i = trap I1 q
@@ -102,6 +110,7 @@ module _ (D : Domain) where
   word known q party k (pos i) = counted q (nat_lt i (count_of known party)) party k i
   word known q party k (negsuc i) = trap I1 q
 
+  -- the hidden value that a feed gives: the private word at this index, or the value that both parties know
   abbrev pub feeds : Known → Spot → Source → ℕ → IntKind → V → Act M V
   feeds known p (Word q) party k (Int l i) = word known q party k i
   feeds known p Shared party k (Hidden l h) = pure (Hidden k h)
@@ -113,6 +122,7 @@ module _ (D : Domain) where
       bind (own (D.reveal k h)) (λ o. bind (answer o) (λ n. bind (stores p a (CInt k false) (CellInt n)) (λ _. pure Nothing)))
   reveals p k _ _ = wrong p
 
+  -- a print of the bytes that a format makes of its arguments, or trap M5 where these don't fit it
   abbrev pub prints : Spot → Option (List ℕ) → Act M V
   prints p (Some bytes) = bind (own {A = Unit {0}} (λ o. (tt {0}, D.print bytes o))) (λ _. pure Nothing)
   prints p None = wrong p
@@ -126,6 +136,7 @@ module _ (D : Domain) where
   performs known p source _ _ = wrong p
 
   abbrev mutual
+    -- the value of an expression of this type
     pub expr : Around → Spot → CType → ExprNode → A V
     expr w p t (Number n) = constant p t n
     expr w p t (Read' q u c) = bind (place (deeper w) q u c) (λ a. still (reads q u a))
@@ -135,14 +146,17 @@ module _ (D : Domain) where
     expr w p t (Builtin' which _ es) =
         bind (exprs (deeper w) es) (λ vs. still (performs w.known p (source_of es) which vs))
 
+    -- the address of a place that holds this type
     pub place : Around → Spot → CType → PlaceNode → A Address
     place w p t (Slot n) = slot p n
     place w p t (Deref' _ e) = bind (one (deeper w) e) (λ v. still (follows p v))
 
+    -- the values of a row of expressions, in order
     pub exprs : {m : _} → Around → Row_of-TExpr m → A (List V)
     exprs w end_of-TExpr = pure []
     exprs w (more_of-TExpr q u c rest) = bind (expr w q u c) (λ v. bind (exprs w rest) (λ vs. pure (v ∷ vs)))
 
+    -- the value of the only expression of a row
     pub one : Around → Row_of-TExpr 1 → A V
     one w (more_of-TExpr q u c rest) = expr w q u c
 
@@ -150,10 +164,12 @@ module _ (D : Domain) where
   abbrev pub whole : Around → TExpr → A V
   whole w e = expr w e.spot e.ty e.node
 
+  -- what follows with the type of a slot that is there, or trap M2 at this spot
   abbrev pub typed_slot : {T R : Type 0} → Spot → Option SlotType → (SlotType → Act T R) → Act T R
   typed_slot p (Some t) k = k t
   typed_slot p None k = trap M2 p
 
+  -- a variable's initialiser, if it has one: its value is written at the start of the variable's block
   abbrev pub started : Around → CType → ℕ → Option TExpr → A (Unit {0})
   started w ty b None = pure tt
   started w ty b (Some e) = bind (whole w e) (λ v. still (initializes e.spot ty (At b 0) v))
@@ -167,10 +183,12 @@ module _ (D : Domain) where
   declares w d =
       typed_slot d.spot (slice_get w.slots d.slot) (λ t. bind (opens d.spot t.ty d.slot) (λ b. started w t.ty b d.init))
 
+  -- the variables of one declaration, in order
   abbrev pub declares_all : Around → List Declared → A Flow
   declares_all w [] = pure Next
   declares_all w (d ∷ ds) = bind (declares w d) (λ _. declares_all w ds)
 
+  -- a statement without its step
   abbrev pub node : Around → StmtNode → A Flow
   node w (Declare ds) = declares_all w ds
   node w (Express e) = bind (whole w e) (λ _. pure Next)
@@ -179,6 +197,7 @@ module _ (D : Domain) where
   abbrev pub stepped : Around → Stmt → A Flow
   stepped w s = bind step (λ _. node (deeper w) s.node)
 
+  -- what is walked after a statement that goes on so
   abbrev pub proceed : Flow → A Flow → A Flow
   proceed Next m = m
 
@@ -187,9 +206,11 @@ module _ (D : Domain) where
   listed w [] = pure Next
   listed w (s ∷ ss) = bind (stepped w s) (λ f. proceed f (listed w ss))
 
+  -- the value of a call whose body ends so
   abbrev pub returned : Flow → V
   returned Next = Nothing
 
+  -- a call after its body's walk: its value, with its variables' blocks gone, unless the walk stopped
   abbrev pub finished : Res S Flow → Res S V
   finished (Go f t) = Go (returned f) (finish [] t)
   finished (Stop w t) = Stop w t
@@ -198,6 +219,7 @@ module _ (D : Domain) where
   abbrev pub invokes : Known → D.Enable → ℕ → TypedFunction → Act S V
   invokes known e room f s = finished (listed (record { known = known; slots = f.slots; enable = e; room = room }) f.body s)
 
+  -- a run's walk of the function that it starts with; without one nothing is done
   abbrev pub entered : Known → Option TypedFunction → Act S V
   entered known (Some f) = invokes known D.always 1000 f
   entered known None = pure Nothing

@@ -26,6 +26,7 @@ pub record Mem (H O : Type 0) : Type 0 where
   pub taken : ℕ
   pub own : O
 
+-- the state of a walk: its memory, the slots that were entered, and the steps that are left
 pub record State (H O : Type 0) : Type 0 where
   pub mem : Mem H O
   -- of the call that runs, the newest first
@@ -37,6 +38,7 @@ pub data Halt : Type 0 where
   Ended : Outcome → Halt
   Needs : ℕ → Halt
 
+-- how an action ends: it goes on with a result, or it stops, and each has the state that is left
 pub data Res (S A : Type 0) : Type 0 where
   Go : A → S → Res S A
   Stop : Halt → S → Res S A
@@ -45,19 +47,24 @@ pub data Res (S A : Type 0) : Type 0 where
 abbrev pub Act : Type 0 → Type 0 → Type 0
 Act S A = S → Res S A
 
+-- what follows a result; a stop stays
 abbrev pub after : {S A B : Type 0} → Res S A → (A → Act S B) → Res S B
 after (Go a t) k = k a t
 after (Stop w t) k = Stop w t
 
+-- an action, then the action that its result gives
 abbrev pub bind : {S A B : Type 0} → Act S A → (A → Act S B) → Act S B
 bind m k s = after (m s) k
 
+-- the action that gives this and changes nothing
 abbrev pub pure : {S A : Type 0} → A → Act S A
 pure a s = Go a s
 
+-- the action that ends the walk with this trap at this spot
 abbrev pub trap : {S A : Type 0} → TrapKind → Spot → Act S A
 trap kind p s = Stop (Ended (Trap kind p)) s
 
+-- what an action on the memory gives, as that of the whole state, whose other parts stay
 abbrev pub stilled : {H O A : Type 0} → State H O → Res (Mem H O) A → Res (State H O) A
 stilled s (Go a m) = Go a (record s { mem = m })
 stilled s (Stop w m) = Stop w (record s { mem = m })
@@ -75,12 +82,15 @@ abbrev pub answered : {S A : Type 0} → Spot → Result A TrapKind → Act S A
 answered p (Ok a) s = Go a s
 answered p (Err kind) s = Stop (Ended (Trap kind p)) s
 
+-- the value of the cell at this address, which is read with this leaf, or the trap at this spot
 abbrev pub loads : {H O : Type 0} → Spot → Address → CType → Act (Mem H O) (CellValue H)
 loads p at leaf m = answered p (load m.blocks at leaf) m
 
+-- these blocks take the place of those before
 abbrev pub keeps : {H O : Type 0} → List (Block H) → Act (Mem H O) (Unit {0})
 keeps blocks m = Go tt (record m { blocks = blocks })
 
+-- a write of this value with this leaf to the cell at this address, or the trap at this spot
 abbrev pub stores : {H O : Type 0} → Spot → Address → CType → CellValue H → Act (Mem H O) (Unit {0})
 stores p at leaf v m = after (answered p (store m.blocks at leaf v) m) keeps
 
@@ -89,6 +99,7 @@ abbrev pub makes : {H O : Type 0} → (IntKind → H) → Spot → List CType �
 makes zero_of p leaves m =
     after (answered p (make zero_of live_limit false m.blocks leaves) m) (λ blocks. bind (keeps blocks) (λ _. pure (length m.blocks)))
 
+-- the first of these values known beforehand, or a stop that says which one is needed
 abbrev pub takes_answer : {H O : Type 0} → List ℤ → Act (Mem H O) ℤ
 takes_answer [] m = Stop (Needs m.taken) m
 takes_answer (n ∷ ns) m = Go n (record m { answers = ns; taken = m.taken + 1 })
@@ -98,6 +109,7 @@ abbrev pub answer : {H O : Type 0} → Option ℤ → Act (Mem H O) ℤ
 answer (Some n) m = Go n m
 answer None m = takes_answer m.answers m
 
+-- so many dealt transfers are used where enough are left, else the run ends for want of them
 abbrev pub pays : {H O : Type 0} → Bool → ℕ → Act (Mem H O) (Unit {0})
 pays true n m = Go tt (record m { dealt = m.dealt - n })
 pays false n m = Stop (Ended DealtSpent) m
@@ -106,6 +118,7 @@ pays false n m = Stop (Ended DealtSpent) m
 abbrev pub transfers : {H O : Type 0} → ℕ → Act (Mem H O) (Unit {0})
 transfers n m = pays (nat_le n m.dealt) n m
 
+-- one step is taken of so many that are left, and where none is, the run ends
 abbrev pub spent : {H O : Type 0} → ℕ → Act (State H O) (Unit {0})
 spent zero s = Stop (Ended StepsSpent) s
 spent (suc n) s = Go tt (record s { steps = n })
@@ -119,6 +132,7 @@ abbrev pub block_of : ℕ → List Named → Option ℕ
 block_of n [] = None
 block_of n (e ∷ es) = if nat_eq e.slot n then Some e.block else block_of n es
 
+-- the slot of this number is entered, with the block of this number
 abbrev pub enter : {H O : Type 0} → ℕ → ℕ → Act (State H O) (Unit {0})
 enter n b s = Go tt (record s { entered = record { slot = n; block = b } ∷ s.entered })
 

@@ -19,6 +19,7 @@ width U32 = 32
 width I64 = 64
 width U64 = 64
 
+-- whether a kind has a sign
 abbrev pub is_signed : IntKind → Bool
 is_signed KBool = false
 is_signed I8 = true
@@ -39,6 +40,7 @@ residue w (negsuc n) = 2 ^ w - 1 - n % 2 ^ w
 abbrev pub signed_value : ℕ → ℕ → ℤ
 signed_value w n = if nat_lt n (2 ^ (w - 1)) then pos n else (pos n -ℤ pos (2 ^ w))
 
+-- what w bits stand for, with a sign or without, of which n is the number without one
 abbrev pub value_of_bits : Bool → ℕ → ℕ → ℤ
 value_of_bits true w n = signed_value w n
 value_of_bits false w n = pos n
@@ -66,11 +68,13 @@ IsOfKind k z = IsTrue (is_in_bits (is_signed k) (width k) z)
 abbrev pub Congruent : ℕ → ℤ → ℤ → Type 0
 Congruent w x y = (m : ℤ) × (x ≡ y +ℤ m *ℤ pos (2 ^ w))
 
+-- whether a number is 0
 abbrev pub is_zero : ℤ → Bool
 is_zero (pos zero) = true
 is_zero (pos (suc n)) = false
 is_zero (negsuc n) = false
 
+-- a truth value as a number, 1 for true and 0 for false
 abbrev pub number_of : Bool → ℤ
 number_of true = pos 1
 number_of false = pos 0
@@ -93,6 +97,7 @@ quotient_by_zero true (pos n) = negsuc 0
 quotient_by_zero true (negsuc n) = pos 1
 quotient_by_zero false x = negsuc 0
 
+-- a quotient rounded toward zero, or the hidden quotient where the divisor is 0
 abbrev pub quotient : Bool → ℤ → ℤ → ℤ
 quotient signed x y = if is_zero y then quotient_by_zero signed x else int_div x y
 
@@ -109,6 +114,7 @@ shift_amount w (negsuc n) = w - 1 - n % w
 abbrev pub combine_bits : Bool → ℕ → (ℕ → ℕ → ℕ) → ℤ → ℤ → ℤ
 combine_bits signed w f x y = value_of_bits signed w (f (residue w x) (residue w y))
 
+-- f of the numbers without a sign, as a value of the kind
 abbrev pub on_bits : IntKind → (ℕ → ℕ → ℕ) → ℤ → ℤ → ℤ
 on_bits k f x y = combine_bits (is_signed k) (width k) f x y
 
@@ -135,6 +141,7 @@ operate_bits NotEqual signed w x y = number_of (not (is_zero (x -ℤ y)))
 abbrev pub operate : BinaryOp → IntKind → ℤ → ℤ → ℤ
 operate op k x y = operate_bits op (is_signed k) (width k) x y
 
+-- whether an operator gives a quotient or a remainder
 abbrev pub divides : BinaryOp → Bool
 divides Div = true
 divides Rem = true
@@ -148,12 +155,15 @@ operate_public op k x y = if divides op && is_zero y then Err record {} else Ok 
 abbrev pub negate_bits : Bool → ℕ → ℤ → ℤ
 negate_bits signed w x = wrap_bits signed w (neg_ℤ x)
 
+-- every bit turned of a value of w bits, with a sign or without
 abbrev pub flip_bits : Bool → ℕ → ℤ → ℤ
 flip_bits signed w x = wrap_bits signed w (negsuc 0 -ℤ x)
 
+-- minus a value of a kind, wrapped to the kind
 abbrev pub negate : IntKind → ℤ → ℤ
 negate k x = negate_bits (is_signed k) (width k) x
 
+-- every bit turned of a value of a kind
 abbrev pub flip : IntKind → ℤ → ℤ
 flip k x = flip_bits (is_signed k) (width k) x
 
@@ -173,5 +183,6 @@ is_right_operand Shl k y = is_in_bits true 64 y || is_in_bits false 64 y
 is_right_operand Shr k y = is_in_bits true 64 y || is_in_bits false 64 y
 is_right_operand _ k y = is_in_bits (is_signed k) (width k) y
 
+-- the values that the right operand of an operator on a kind may have
 abbrev pub IsRightOperand : BinaryOp → IntKind → ℤ → Type 0
 IsRightOperand op k y = IsTrue (is_right_operand op k y)
