@@ -28,6 +28,7 @@ abbrev pub NoWord : List Token → Type 0
 NoWord [] = Unit {0}
 NoWord (t ∷ ts) = (word : Word) → Is (Keyword word) t → ⊥
 
+-- the same, after any value
 abbrev pub BeforeNoWord : {A : Type 0} → A → List Token → Type 0
 BeforeNoWord v ts = NoWord ts
 
@@ -96,5 +97,6 @@ NoBracket v ts = NotNext (Sign s.LeftBracket) ts
 pub data ALength : ℕ → List Token → Type 0 where
   a_length : {n : Literal} {t : Token} → Is (Number n) t → ALength n.value (t ∷ [])
 
+-- after an opening bracket: a length and the closing bracket
 abbrev pub dim_rest : ℕ → List Token → Type 0
 dim_rest = Then ALength (λ n. Then (One (Sign s.RightBracket)) (λ _. End n))

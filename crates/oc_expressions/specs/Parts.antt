@@ -96,6 +96,7 @@ pub data PrimaryBy (t : Token) : Expr → List Token → Type 0 where
   by_size : {v : Expr} {ys : List Token} → Is (Keyword w.Sizeof) t → size_after t.spot v ys → PrimaryBy t v ys
   by_name : {n : List ℕ} {v : Expr} {ys : List Token} → Is (Name n) t → name_after t.spot n v ys → PrimaryBy t v ys
 
+-- what stands alone and is not in parentheses
 abbrev pub primary : Expr → List Token → Type 0
 primary = By PrimaryBy
 

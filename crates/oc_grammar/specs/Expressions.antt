@@ -46,10 +46,12 @@ mutual
   pub data Before : SignType → Expr → List Token → Type 0 where
     before : {sign : SignType} {t : Token} {v : Expr} {x : List Token} → Expression 1 v x → Is (Sign sign) t → Before sign v (x ++ t ∷ [])
 
+  -- the arguments of a call, or none
   pub data Arguments : List Expr → List Token → Type 0 where
     none : Arguments [] []
     some : {vs : List Expr} {x : List Token} → Listed vs x → Arguments vs x
 
+  -- one or more expressions with commas between them
   pub data Listed : List Expr → List Token → Type 0 where
     last : {v : Expr} {x : List Token} → Expression 1 v x → Listed (v ∷ []) x
     more : {t : Token} {v : Expr} {vs : List Expr} {x y : List Token} → Expression 1 v x → Is (Sign s.Comma) t → Listed vs y → Listed (v ∷ vs) (x ++ t ∷ y)

@@ -13,5 +13,6 @@ open_node (StmtNode-F.While c b) = b
 open_node (StmtNode-F.For i c a b) = b
 open_node _ = false
 
+-- whether a statement ends in an `if` or `obliv if` without an else
 abbrev pub ends_open : Stmt → Bool
 ends_open = fold-Stmt Bool Bool open_node (λ s. s.node)

@@ -24,6 +24,7 @@ pub data Initialised (b : BaseName) : Declared → List Token → Type 0 where
   bare : {f : FieldDef} {x : List Token} → Declr b f x → Initialised b (declared f None) x
   set : {f : FieldDef} {v : Expr} {t : Token} {x y : List Token} → Declr b f x → Is (Sign s.Assign) t → Expression 1 v y → Initialised b (declared f (Some v)) (x ++ t ∷ y)
 
+-- one or more declared names of one base, up to the semicolon
 pub data Declaration : BaseName → List Declared → List Token → Type 0 where
   declaration : {b : BaseName} {ds : List Declared} {t : Token} {x y : List Token} → Base b x → Commas (Initialised b) ds y → Is (Sign s.Semicolon) t → Declaration b ds (x ++ (y ++ t ∷ []))
 
@@ -43,6 +44,7 @@ pub data Init : ForInit → List Token → Type 0 where
   expresses : {v : Expr} {x : List Token} → Before s.Semicolon v x → Init (init.Express v) x
 
 mutual
+  -- a statement; a declaration is none, and stands only in a block or in the header of a `for`
   pub data Statement : Stmt → List Token → Type 0 where
     empty : {t : Token} → Is (Sign s.Semicolon) t → Statement (stmt t.spot st.Empty) (t ∷ [])
     express : {v : Expr} {x : List Token} → Before s.Semicolon v x → Statement (stmt (spot_at x) (st.Express v)) x
@@ -65,6 +67,7 @@ mutual
   pub data Block : List Stmt → List Token → Type 0 where
     braces : {a b : Token} {vs : List Stmt} {x : List Token} → Is (Sign s.LeftBrace) a → Steps vs x → Is (Sign s.RightBrace) b → Block vs (a ∷ (x ++ b ∷ []))
 
+  -- declarations and statements, one after the other
   pub data Steps : List Stmt → List Token → Type 0 where
     no_step : Steps [] []
     a_declaration : {b : BaseName} {ds : List Declared} {vs : List Stmt} {x y : List Token} → Declaration b ds x → Steps vs y → Steps (stmt b.spot (st.Declare ds) ∷ vs) (x ++ y)

@@ -40,5 +40,6 @@ pub data Leaf : TokenKind → ExprNode → Type 0 where
 abbrev pub struct_base : Spot → Bool → List ℕ → BaseName
 struct_base spot frozen name = record { spot = spot; frozen = frozen; obliv = false; kind = base.Struct name }
 
+-- a written type without a name: a base, and how many stars follow it
 abbrev pub type_name : BaseName → ℕ → TypeName
 type_name b n = record { base = b; stars = n }

@@ -30,6 +30,7 @@ pub data Core : Width → List Token → Type 0 where
   int : {t : Token} → Is (Keyword w.Int) t → Core width.Int (t ∷ [])
   long : {t : Token} {x y : List Token} → Is (Keyword w.Long) t → Optional w.Long tt x → Optional w.Int tt y → Core width.Long (t ∷ (x ++ y))
 
+-- an integer type without marks
 pub data Ints : IntKind → List Token → Type 0 where
   bool : {t : Token} → Is (Keyword w.Bool) t → Ints kind.Bool (t ∷ [])
   underscore_bool : {t : Token} → Is (Keyword w.UnderscoreBool) t → Ints kind.Bool (t ∷ [])
@@ -49,10 +50,12 @@ pub data Base : BaseName → List Token → Type 0 where
   a_struct : {n : List ℕ} {t u : Token} → Is (Keyword w.Struct) t → Is (Name n) u → Base (struct_base t.spot false n) (t ∷ (u ∷ []))
   frozen_struct : {n : List ℕ} {f t u : Token} → Is (Keyword w.Frozen) f → Is (Keyword w.Struct) t → Is (Name n) u → Base (struct_base f.spot true n) (f ∷ (t ∷ (u ∷ [])))
 
+-- this many stars
 pub data Stars : ℕ → List Token → Type 0 where
   no_star : Stars 0 []
   star : {t : Token} {n : ℕ} {x : List Token} → Is (Sign s.Star) t → Stars n x → Stars (n + 1) (t ∷ x)
 
+-- a written type without a name: a base and the stars after it
 pub data TypeNamed : TypeName → List Token → Type 0 where
   type_named : {b : BaseName} {n : ℕ} {x y : List Token} → Base b x → Stars n y → TypeNamed (type_name b n) (x ++ y)
 

@@ -51,6 +51,7 @@ closed_parameters = Then Parameters (λ ps. Then (One (Sign s.RightParen)) (λ _
 abbrev pub NoObliv : {A : Type 0} → A → List Token → Type 0
 NoObliv v ts = NotNext (Keyword w.Obliv) ts
 
+-- a heading: the name with its spot, the parameters, and whether the function is marked
 abbrev pub heading : Named → List Param → Bool → Heading
 heading n ps mark = record { named = n; params = ps; obliv = mark }
 

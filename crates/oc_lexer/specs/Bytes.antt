@@ -11,6 +11,7 @@ is_space b = nat_eq b 9 || (nat_le 11 b && nat_le b 13) || nat_eq b 32
 abbrev pub is_blank : ℕ → Bool
 is_blank b = is_space b || nat_eq b 10
 
+-- a digit from 0 to 9
 abbrev pub is_digit : ℕ → Bool
 is_digit b = nat_le 48 b && nat_le b 57
 
@@ -18,9 +19,11 @@ is_digit b = nat_le 48 b && nat_le b 57
 abbrev pub is_name_start : ℕ → Bool
 is_name_start b = (nat_le 65 b && nat_le b 90) || (nat_le 97 b && nat_le b 122) || nat_eq b 95
 
+-- an ASCII letter, a digit or `_`
 abbrev pub is_name_byte : ℕ → Bool
 is_name_byte b = is_name_start b || is_digit b
 
+-- whether a byte is of the class; `Number` is the bytes of names and `.`, and `Line` all but the newline
 abbrev pub is_in : ByteClass → ℕ → Bool
 is_in Space b = is_space b
 is_in Name b = is_name_byte b
@@ -30,6 +33,7 @@ is_in Octal b = nat_le 48 b && nat_le b 55
 is_in Hexadecimal b = is_digit b || (nat_le 65 b && nat_le b 70) || (nat_le 97 b && nat_le b 102)
 is_in Line b = not (nat_eq b 10)
 
+-- whether a text begins with a byte of the class
 abbrev pub begins_with : (ℕ → Bool) → List ℕ → Bool
 begins_with p [] = false
 begins_with p (b ∷ bs) = p b

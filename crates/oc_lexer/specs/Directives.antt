@@ -9,6 +9,7 @@ use Rattle.oc_lexer.specs.Comments.{ends_line}
 use Rattle.oc_lexer.specs.Words.{keyword_of}
 use Rattle.oc_lexer.specs.Numbers.{literal_of, is_empty}
 
+-- what an `#include` may name, with its angle brackets
 abbrev pub headers : List (List ℕ)
 headers = codes "<obliv.oh>" ∷ codes "<stdio.h>" ∷ codes "<stdlib.h>" ∷ codes "<stdbool.h>" ∷ []
 

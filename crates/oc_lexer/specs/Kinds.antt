@@ -17,6 +17,7 @@ kind_of is_fresh b more =
     else if nat_eq b 47 && begins_with (λ c. nat_eq c 47) more then LineComment
     else Sign
 
+-- what begins at the front of a text, where the flag says whether only blanks stand before it on its line
 unfoldable pub kind_at : Bool → List ℕ → Kind
 kind_at is_fresh [] = Sign
 kind_at is_fresh (b ∷ more) = kind_of is_fresh b more

@@ -26,14 +26,17 @@ pub data Element : Type 0 where
   -- `\` and a letter, which stand for this byte
   Escape : ℕ → ℕ → Element
 
+-- the bytes that spell an element
 abbrev pub element_text : Element → List ℕ
 element_text (Plain b) = b ∷ []
 element_text (Escape letter b) = 92 ∷ letter ∷ []
 
+-- the byte that an element stands for
 abbrev pub element_value : Element → ℕ
 element_value (Plain b) = b
 element_value (Escape letter b) = b
 
+-- whether the value of an escape is this byte; what is no escape has no value
 abbrev pub is_escape : Option ℕ → ℕ → Bool
 is_escape (Some v) b = nat_eq v b
 is_escape None b = false
@@ -43,6 +46,7 @@ abbrev pub is_element : (ℕ → Bool) → Element → Bool
 is_element plain (Plain b) = plain b
 is_element plain (Escape letter b) = is_escape (escape_value letter) b
 
+-- the bytes that spell these elements, one after the other
 abbrev pub elements_text : List Element → List ℕ
 elements_text [] = []
 elements_text (e ∷ es) = element_text e ++ elements_text es

@@ -12,11 +12,13 @@ use Rattle.oc_lexer.specs.Places.{is_newline, spot_after, is_fresh_after}
 abbrev pub place_of : List ℕ → Place
 place_of front = record { at = length front; spot = spot_after front; is_fresh = is_fresh_after front }
 
+-- the place after one more byte
 abbrev pub stepped : Place → ℕ → Place
 stepped p b =
     if is_newline b then record { at = p.at + 1; spot = record { line = p.spot.line + 1; column = 1 }; is_fresh = true }
     else record { at = p.at + 1; spot = record { line = p.spot.line; column = p.spot.column + 1 }; is_fresh = p.is_fresh && is_blank b }
 
+-- the place after a further text
 abbrev pub passed : Place → List ℕ → Place
 passed p text = fold stepped p text
 

@@ -17,16 +17,19 @@ use Rattle.oc_lexer.specs.Bytes.{is_in, run, after}
 abbrev pub form_of : List ℕ → Form
 form_of text = if nat_eq (get_or text 0 0) 48 then (if nat_eq (get_or text 1 0) 120 || nat_eq (get_or text 1 0) 88 then Hexadecimal else Octal) else Decimal
 
+-- how many bytes stand before the digits; the leading 0 of an octal number is one of its digits
 abbrev pub prefix_length : Form → ℕ
 prefix_length Decimal = 0
 prefix_length Octal = 0
 prefix_length Hexadecimal = 2
 
+-- the base in which the digits of a form are read
 abbrev pub base_of : Form → ℕ
 base_of Decimal = 10
 base_of Octal = 8
 base_of Hexadecimal = 16
 
+-- the class of the bytes that are digits of a form
 abbrev pub digit_class : Form → ByteClass
 digit_class Decimal = class.Decimal
 digit_class Octal = class.Octal
@@ -36,9 +39,11 @@ digit_class Hexadecimal = class.Hexadecimal
 abbrev pub body_of : List ℕ → List ℕ
 body_of text = drop (prefix_length (form_of text)) text
 
+-- the digits of a number, as far as they go after its prefix
 abbrev pub digits_of : List ℕ → List ℕ
 digits_of text = run (is_in (digit_class (form_of text))) (body_of text)
 
+-- what follows the digits of a number
 abbrev pub suffix_text : List ℕ → List ℕ
 suffix_text text = after (is_in (digit_class (form_of text))) (body_of text)
 
@@ -46,9 +51,11 @@ suffix_text text = after (is_in (digit_class (form_of text))) (body_of text)
 abbrev pub digit_value : ℕ → ℕ
 digit_value b = if nat_le b 57 then b - 48 else if nat_le b 70 then b - 55 else b - 87
 
+-- the value of digits in this base, the highest first
 abbrev pub value_of : ℕ → List ℕ → ℕ
 value_of base digits = fold (λ v b. v * base + digit_value b) 0 digits
 
+-- a suffix: whether it has `u`, and whether it has `l` or `ll`
 abbrev pub suffix : Bool → Bool → Suffix
 suffix unsigned long = record { unsigned = unsigned; long = long }
 
@@ -64,6 +71,7 @@ suffixes =
     ∷ (codes "lU", suffix true true) ∷ (codes "LU", suffix true true) ∷ (codes "llU", suffix true true) ∷ (codes "LLU", suffix true true)
     ∷ []
 
+-- whether a text has no bytes
 abbrev pub is_empty : List ℕ → Bool
 is_empty [] = true
 is_empty (b ∷ bs) = false
@@ -78,6 +86,7 @@ long_kinds Decimal = I64 ∷ []
 long_kinds Octal = I64 ∷ U64 ∷ []
 long_kinds Hexadecimal = I64 ∷ U64 ∷ []
 
+-- without a suffix
 abbrev pub plain_kinds : Form → List IntKind
 plain_kinds Decimal = I32 ∷ I64 ∷ []
 plain_kinds Octal = I32 ∷ U32 ∷ I64 ∷ U64 ∷ []
@@ -100,17 +109,21 @@ abbrev pub literal_where : (kind : IntKind) (value : ℕ) (is : Bool) → is_lit
 literal_where kind value true h = Some (record { kind = kind; value = value; of_kind = h })
 literal_where kind value false h = None
 
+-- the literal of a kind and a value, none where no literal has that kind or the kind doesn't hold the value
 unfoldable pub literal : IntKind → ℕ → Option Literal
 literal kind value = literal_where kind value (is_literal kind value) refl
 
+-- the literal of a kind and a value, none where there is no kind or no such literal
 abbrev pub literal_of_kind : Option IntKind → ℕ → Option Literal
 literal_of_kind (Some k) v = literal k v
 literal_of_kind None v = None
 
+-- the literal of a value in this form and with this suffix, none where it is no number or no kind holds it
 abbrev pub literal_with : Option Suffix → Form → ℕ → Option Literal
 literal_with (Some s) form v = literal_of_kind (first_holding (kinds_of form s) v) v
 literal_with None form v = None
 
+-- the value of the digits of a number, in the base of its form
 abbrev pub number_value : List ℕ → ℕ
 number_value text = value_of (base_of (form_of text)) (digits_of text)
 

@@ -16,6 +16,7 @@ use Rattle.oc_lexer.specs.Numbers.{literal_of}
 use Rattle.oc_lexer.specs.Literals.{Element, element_text, element_value, elements_text, is_element, is_text_byte, is_character_byte}
 use Rattle.oc_lexer.specs.Directives.{Includes, Defines}
 
+-- a piece of a source: a blank, a comment, a directive or a token
 pub data Piece : Type 0 where
   Blank : Piece
   Comment : Piece
@@ -35,12 +36,14 @@ pub record SpellsSign (s : Sign) (text rest : List ℕ) : Type 0 where
   pub spelled : text ≡ sign_text s
   pub longest : (longer : Sign) (more : List ℕ) → text ++ rest ≡ sign_text longer ++ more → length (sign_text longer) ≤ length text
 
+-- the text is a character literal, with its quotes, that stands for this byte
 pub record SpellsCharacter (b : ℕ) (text : List ℕ) : Type 0 where
   pub element : Element
   pub whole : text ≡ 39 ∷ (element_text element ++ 39 ∷ [])
   pub fits : IsTrue (is_element is_character_byte element)
   pub value : b ≡ element_value element
 
+-- the text is a text literal, with its quotes, that stands for these bytes
 pub record SpellsText (bytes text : List ℕ) : Type 0 where
   pub elements : List Element
   pub whole : text ≡ 34 ∷ (elements_text elements ++ 34 ∷ [])

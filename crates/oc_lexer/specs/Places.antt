@@ -4,6 +4,7 @@ use Rattle.std.specs.List.{list_all}
 use Rattle.oc_tree.specs.declared.spot.Spot.{Spot}
 use Rattle.oc_lexer.specs.Bytes.{is_blank}
 
+-- the byte that ends a line
 abbrev pub is_newline : ℕ → Bool
 is_newline b = nat_eq b 10
 

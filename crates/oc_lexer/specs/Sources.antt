@@ -25,9 +25,11 @@ use Rattle.oc_lexer.specs.Pieces.{Piece, Blank, Comment, Include, Define, Lexeme
 abbrev pub Definitions : Type 0
 Definitions = List (List ℕ × Literal)
 
+-- the literal that a name stands for, if it is defined
 abbrev pub defined : Definitions → List ℕ → Option Literal
 defined ds name = lookup (bytes_eq name) ds
 
+-- the definitions after one more piece
 abbrev pub with_piece : Definitions → Piece → Definitions
 with_piece ds Blank = ds
 with_piece ds Comment = ds
@@ -43,9 +45,11 @@ is_new_by known Include = true
 is_new_by known (Define name literal) = is_none (known name)
 is_new_by known (Lexeme kind) = true
 
+-- the same, where these are the definitions before the piece
 abbrev pub is_new : Definitions → Piece → Bool
 is_new ds piece = is_new_by (defined ds) piece
 
+-- the token of a name: the number that it stands for, or else the name itself
 abbrev pub number_or_name : Option Literal → List ℕ → TokenKind
 number_or_name (Some literal) name = t.Number literal
 number_or_name None name = t.Name name
@@ -66,6 +70,7 @@ pub record Laid : Type 0 where
   pub piece : Piece
   pub text : List ℕ
 
+-- the texts of pieces, one after the other
 abbrev pub laid : List Laid → List ℕ
 laid [] = []
 laid (l ∷ ls) = l.text ++ laid ls
@@ -75,6 +80,7 @@ abbrev pub AreLaid : List ℕ → Definitions → List Laid → List ℕ → Typ
 AreLaid front ds [] rest = Unit {0}
 AreLaid front ds (l ∷ ls) rest = SpellsPiece (is_fresh_after front) l.piece l.text (laid ls ++ rest) × IsTrue (is_new ds l.piece) × AreLaid (front ++ l.text) (with_piece ds l.piece) ls rest
 
+-- the definitions after further pieces
 abbrev pub definitions : Definitions → List Laid → Definitions
 definitions ds [] = ds
 definitions ds (l ∷ ls) = definitions (with_piece ds l.piece) ls
@@ -87,6 +93,7 @@ token_by known front text Include = []
 token_by known front text (Define name literal) = []
 token_by known front text (Lexeme kind) = record { kind = replaced_by known kind; from = length front; to = length (front ++ text); spot = spot_after front } ∷ []
 
+-- the tokens of pieces, after this front of the source and these definitions
 abbrev pub tokens_of : List ℕ → Definitions → List Laid → List Token
 tokens_of front ds [] = []
 tokens_of front ds (l ∷ ls) = token_by (defined ds) front l.text l.piece ++ tokens_of (front ++ l.text) (with_piece ds l.piece) ls

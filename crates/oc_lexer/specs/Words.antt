@@ -8,6 +8,7 @@ use Rattle.oc_lexer.specs.declared.token.Sign.TheVariants as s
 use Rattle.oc_lexer.specs.declared.token.TokenKind.{TokenKind}
 use Rattle.oc_lexer.specs.declared.token.TokenKind.TheVariants as t
 
+-- the bytes that spell a keyword
 abbrev pub keyword_text : Keyword → List ℕ
 keyword_text k.Obliv = codes "obliv"
 keyword_text k.Frozen = codes "frozen"
@@ -33,6 +34,7 @@ keyword_text k.True = codes "true"
 keyword_text k.False = codes "false"
 keyword_text k.Null = codes "NULL"
 
+-- every keyword
 abbrev pub keywords : List Keyword
 keywords =
     k.Obliv ∷ k.Frozen ∷ k.If ∷ k.Else ∷ k.While ∷ k.For ∷ k.Return ∷ k.Break ∷ k.Continue ∷ k.Struct
@@ -44,6 +46,7 @@ abbrev pub find_keyword : List Keyword → List ℕ → Option Keyword
 find_keyword [] word = None
 find_keyword (x ∷ xs) word = if bytes_eq word (keyword_text x) then Some x else find_keyword xs word
 
+-- the keyword that a word is, if it is one
 unfoldable pub keyword_of : List ℕ → Option Keyword
 keyword_of word = find_keyword keywords word
 
@@ -52,6 +55,7 @@ abbrev pub word_kind : Option Keyword → List ℕ → TokenKind
 word_kind (Some x) word = t.Keyword x
 word_kind None word = t.Name word
 
+-- the bytes that spell a sign
 abbrev pub sign_text : Sign → List ℕ
 sign_text s.LeftParen = codes "("
 sign_text s.RightParen = codes ")"

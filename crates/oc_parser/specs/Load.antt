@@ -16,16 +16,20 @@ pub record Stack : Type 0 where
   pub top : Entry
   pub below : List Entry
 
+-- an entry: how many tokens it counts, and how many brackets are open in it
 abbrev pub entry : ℕ → ℕ → Entry
 entry count opened = record { count = count; opened = opened }
 
+-- a stack of this top entry and those below it
 abbrev pub stack : Entry → List Entry → Stack
 stack top below = record { top = top; below = below }
 
+-- the sum of the counts of entries
 abbrev pub total : List Entry → ℕ
 total [] = 0
 total (e ∷ es) = e.count + total es
 
+-- the sum of all counts of a stack
 abbrev pub load : Stack → ℕ
 load s = s.top.count + total s.below
 
@@ -53,6 +57,7 @@ abbrev pub next_top : Entry → List Entry → Stack
 next_top top [] = stack top []
 next_top top (e ∷ es) = stack e es
 
+-- a stack without its top entry, if that is not the only one
 abbrev pub popped : Stack → Stack
 popped s = next_top s.top s.below
 
@@ -70,10 +75,12 @@ passed effect.Leave else_next s = emptied else_next (popped s)
 passed effect.Finish else_next s = emptied (else_next || nat_lt 0 s.top.opened) s
 passed effect.Nothing else_next s = s
 
+-- whether a token of this kind is `else`
 abbrev pub is_else : TokenKind → Bool
 is_else (Keyword w.Else) = true
 is_else _ = false
 
+-- whether `else` comes next
 abbrev pub is_else_next : List Token → Bool
 is_else_next [] = false
 is_else_next (t ∷ ts) = is_else t.kind
@@ -83,6 +90,7 @@ abbrev pub loads_after : Stack → List Token → List ℕ
 loads_after s [] = []
 loads_after s (t ∷ ts) = load (counted s) ∷ loads_after (passed (effect_of t.kind) (is_else_next ts) (counted s)) ts
 
+-- the load of each token of a source
 abbrev pub loads : List Token → List ℕ
 loads = loads_after (stack (entry 0 0) [])
 

@@ -9,6 +9,7 @@ use Rattle.oc_grammar.specs.Headings.{Parts}
 use Rattle.oc_headings.specs.declared.parts.Part.{Part}
 use Rattle.oc_headings.specs.declared.parts.Part.TheVariants as part
 
+-- a program: the struct definitions, the functions, and the spot of its end
 abbrev pub program_of : List StructDef → List Function → Spot → Program
 program_of ds fs end = record { structs = ds; functions = fs; end = end }
 

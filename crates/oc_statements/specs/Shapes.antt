@@ -48,6 +48,7 @@ NamesEnd d zs = NotNext (Sign s.Comma) zs × Stops 1 zs
 abbrev pub names_after : BaseName → List Declared → List Token → Type 0
 names_after b = Then (Commas (Initialised b)) (λ ds. Then (One (Sign s.Semicolon)) (λ _. End ds))
 
+-- a declaration as a statement, after what its type begins with
 abbrev pub declare_after : BaseName → Stmt → List Token → Type 0
 declare_after b = Then (names_after b) (λ ds. End (stmt b.spot (st.Declare ds)))
 
@@ -61,6 +62,7 @@ simple_lead (Keyword w.Break) = simple.Break
 simple_lead (Keyword w.Continue) = simple.Continue
 simple_lead _ = simple.Express
 
+-- an empty statement, an expression, a `return`, a `break` or a `continue`, with its semicolon
 pub data Simple : Stmt → List Token → Type 0 where
   empty : {t : Token} → Is (Sign s.Semicolon) t → Simple (stmt t.spot st.Empty) (t ∷ [])
   express : {v : Expr} {x : List Token} → Before s.Semicolon v x → Simple (stmt (spot_at x) (st.Express v)) x
@@ -72,6 +74,7 @@ pub data Simple : Stmt → List Token → Type 0 where
 abbrev pub expressed : Stmt → List Token → Type 0
 expressed = Then (Placed (Before s.Semicolon)) (λ p. End (stmt p.0 (st.Express p.1)))
 
+-- the header of a `for`: what it begins with, its condition, and what is done after each turn
 abbrev pub header : ForInit → Option Expr → Option Expr → Header
 header i c a = record { init = i; cond = c; advance = a }
 
@@ -108,9 +111,11 @@ pub data ElseBy (spot : Spot) (obliv : Bool) (c : Expr) (y : Stmt) (t : Token) :
 abbrev pub if_after : Spot → Bool → Stmt → List Token → Type 0
 if_after spot obliv = Then Condition (λ c. Then Statement (λ y. Maybe (ElseBy spot obliv c y) (stmt spot (if_node obliv c y None))))
 
+-- after `while`, where the statement begins at the spot
 abbrev pub while_after : Spot → Stmt → List Token → Type 0
 while_after spot = Then Condition (λ c. Then Statement (λ b. End (stmt spot (st.While c b))))
 
+-- after `for`, where the statement begins at the spot
 abbrev pub for_after : Spot → Stmt → List Token → Type 0
 for_after spot = Then header_form (λ h. Then Statement (λ b. End (stmt spot (st.For h.init h.cond h.advance b))))
 
@@ -128,6 +133,7 @@ pub data Run : List Stmt → List Stmt → List Token → Type 0 where
   run_end : {l : List Stmt} {t : Token} → Is (Sign s.RightBrace) t → Run l l (t ∷ [])
   run_more : {l : List Stmt} {v : Stmt} {vs : List Stmt} {x y : List Token} → Step v x → Run (l ++ v ∷ []) vs y → Run l vs (x ++ y)
 
+-- after `{`, where the block begins at the spot
 abbrev pub block_after : Spot → Stmt → List Token → Type 0
 block_after spot = Then (Run []) (λ vs. End (stmt spot (st.Block vs)))
 
