@@ -94,7 +94,6 @@ abbrev pub source_in : List TExpr → Source
 source_in [] = Shared
 source_in (e ∷ es) = source_at e.spot e.node
 
--- the values of expressions, in order
 module _ (D : Domain) where
   -- the walk of expressions from left to right, whose result is their values
   abbrev pub wholes : Around D → List TExpr → A D (List (V D))
@@ -141,7 +140,7 @@ pub record RunsStmt (s : ClearSetup) (slots : List SlotType) (t : Stmt) (m : Mac
 pub record RunsBody (s : ClearSetup) (slots : List SlotType) (ts : List Stmt) (m : Machine) (result : Result Flow Fault) (new : Machine) : Type 0 where
   pub runs : WalksIn s slots (λ w. listed (clear s.first s.second) w ts) m result new
 
--- after some of the declared names, and after some of the statements, these are left
+-- after some of the declared names, these are left
 pub record Declaring (s : ClearSetup) (slots : List SlotType) (ds : List Declared) (m : Machine) (left : List Declared) (new : Machine) : Type 0 where
   pub does : (room : ℕ) → declares_all (clear s.first s.second) (around s slots room) ds (state m) ≡ declares_all (clear s.first s.second) (around s slots room) left (state new)
 

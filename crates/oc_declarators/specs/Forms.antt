@@ -43,7 +43,7 @@ tail u width.Short = Then (Optional w.Int) (λ _. End (kind_of u width.Short))
 tail u width.Int = End (kind_of u width.Int)
 tail u width.Long = Then (Optional w.Long) (λ _. Then (Optional w.Int) (λ _. End (kind_of u width.Long)))
 
--- a word that an integer type is named after, by what it begins, and the rest
+-- what follows a word that an integer type is named after, by what that word begins
 abbrev pub named_after : Bool → Opening → IntKind → List Token → Type 0
 named_after u (o.Named c) = tail u c
 named_after u _ = λ v ys. ⊥
@@ -93,7 +93,7 @@ NoStar v ts = NotNext (Sign s.Star) ts
 abbrev pub NoBracket : {A : Type 0} → A → List Token → Type 0
 NoBracket v ts = NotNext (Sign s.LeftBracket) ts
 
--- a number and its closing bracket
+-- a number, as the length of an array
 pub data ALength : ℕ → List Token → Type 0 where
   a_length : {n : Literal} {t : Token} → Is (Number n) t → ALength n.value (t ∷ [])
 

@@ -78,7 +78,7 @@ postfixes spot = Loop (PostfixStep spot)
 abbrev pub closed_arguments : List Expr → List Token → Type 0
 closed_arguments = Then Arguments (λ vs. Then (One (Sign s.RightParen)) (λ _. End vs))
 
--- the parenthesis after a name
+-- what a parenthesis after a name begins: the arguments of a call and the closing parenthesis
 pub data CallBy (spot : Spot) (n : List ℕ) (t : Token) : Expr → List Token → Type 0 where
   call_by : {v : Expr} {ys : List Token} → Is (Sign s.LeftParen) t → Then closed_arguments (λ vs. End (expr spot (e.Call n vs))) v ys → CallBy spot n t v ys
 

@@ -36,7 +36,7 @@ pub data Leaf : TokenKind → ExprNode → Type 0 where
   truth : (n : Literal) → n.kind ≡ I32 → n.value ≡ 1 → Leaf (Keyword w.True) (e.Number n)
   falsity : (n : Literal) → n.kind ≡ I32 → n.value ≡ 0 → Leaf (Keyword w.False) (e.Number n)
 
--- a type that begins at the spot, with its mark `frozen`
+-- a struct type that begins at the spot, with its mark `frozen`
 abbrev pub struct_base : Spot → Bool → List ℕ → BaseName
 struct_base spot frozen name = record { spot = spot; frozen = frozen; obliv = false; kind = base.Struct name }
 

@@ -4,7 +4,7 @@ use Rattle.oc_lexer.specs.declared.kinds.Kind.{Kind}
 use Rattle.oc_lexer.specs.declared.kinds.Kind.TheVariants.{Blank, Word, Number, Character, Text, Directive, BlockComment, LineComment, Sign}
 use Rattle.oc_lexer.specs.Bytes.{is_blank, is_name_start, is_digit, begins_with}
 
--- by the first byte, what follows it, and whether only blanks stand before it on its line
+-- what begins so: by the first byte, what follows it, and whether only blanks stand before it on its line
 abbrev pub kind_of : Bool → ℕ → List ℕ → Kind
 kind_of is_fresh b more =
     if is_blank b then Blank

@@ -80,13 +80,13 @@ is_empty (b ∷ bs) = false
 unfoldable pub suffix_of : List ℕ → Option Suffix
 suffix_of text = if is_empty (digits_of text) then None else lookup (bytes_eq (suffix_text text)) suffixes
 
--- with `l` or `ll`, and without a suffix
+-- the kinds of a number with `l` or `ll` and without `u`, in the order in which they are tried
 abbrev pub long_kinds : Form → List IntKind
 long_kinds Decimal = I64 ∷ []
 long_kinds Octal = I64 ∷ U64 ∷ []
 long_kinds Hexadecimal = I64 ∷ U64 ∷ []
 
--- without a suffix
+-- the kinds of a number without a suffix, in the order in which they are tried
 abbrev pub plain_kinds : Form → List IntKind
 plain_kinds Decimal = I32 ∷ I64 ∷ []
 plain_kinds Octal = I32 ∷ U32 ∷ I64 ∷ U64 ∷ []

@@ -21,7 +21,7 @@ use Rattle.oc_lexer.specs.Pieces.{Piece, Blank, Comment, Include, Define, Lexeme
 
 -- ---- what the `#define`s before a piece say
 
--- the last one first
+-- defined names, each with its number, the last one first
 abbrev pub Definitions : Type 0
 Definitions = List (List ℕ × Literal)
 
@@ -37,7 +37,7 @@ with_piece ds Include = ds
 with_piece ds (Define name literal) = (name, literal) ∷ ds
 with_piece ds (Lexeme kind) = ds
 
--- a name is defined once
+-- whether a name that the piece defines is not known yet
 abbrev pub is_new_by : (List ℕ → Option Literal) → Piece → Bool
 is_new_by known Blank = true
 is_new_by known Comment = true

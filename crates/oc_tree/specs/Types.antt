@@ -98,7 +98,7 @@ abbrev mutual
   freeze_row ss (more_of-CType t ts) = more_of-CType (freeze ss t) ts
   freeze_row ss end_of-CType = end_of-CType
 
--- a pointer inside a frozen one is frozen where it leads to public data, and elsewhere it may be frozen only there
+-- a pointer inside a frozen one is frozen exactly where it leads to public data, and elsewhere it may be frozen only there
 abbrev pub mark_allowed : Bool → Bool → Bool → Bool
 mark_allowed true f p = alike f p
 mark_allowed false true p = p

@@ -31,7 +31,7 @@ is_sum Add = true
 is_sum Sub = true
 is_sum _ = false
 
--- both operands have the type of the result
+-- a sum or a difference of a promoted kind, whose operands both have the type of the result
 abbrev pub typed_operator : BinaryOp → CType → CType → CType → Bool
 typed_operator op (Int k o) l r = is_sum op && is_promoted k && same true (Int k o) l && same true (Int k o) r
 typed_operator op _ l r = false
@@ -111,7 +111,7 @@ abbrev mutual
   dereferenced ss t (more_of-TExpr q (Pointer' f u to) c end_of-TExpr) = same_row true to (more_of-CType t end_of-CType) && typed_expr ss (Pointer' f u to) c
   dereferenced ss t _ = false
 
--- an initialiser has the type of its variable
+-- the variable is there, its type is one that a cell holds, and its initialiser, if any, is typed and has its type
 abbrev pub typed_start : List SlotType → Option SlotType → Option TExpr → Bool
 typed_start ss None e = false
 typed_start ss (Some s) None = has_values s.ty

@@ -21,7 +21,7 @@ use Rattle.oc_tree.specs.Walking.{Mem, State, Act, bind, pure, trap, loads, stor
 abbrev pub wrong : {T R : Type 0} → Spot → Act T R
 wrong p = trap M5 p
 
--- what a cell of this type holds, as a value, and back
+-- what a cell of this type holds, as a value
 abbrev pub valued : {H O : Type 0} → Spot → CType → CellValue H → Act (Mem H O) (Value H)
 valued p (CInt k false) (CellInt n) = pure (Int k n)
 valued p (CInt k true) (CellHidden h) = pure (Hidden k h)
