@@ -2,9 +2,9 @@
 """Times the command `clear` on long sources of several forms, and prints a table for docs/PERFORMANCE.md.
 
 All but the first are refused only because their trees aren't of the first form, so both their tokens and their trees
-are read. Each time is the least of twenty runs, with the start of the process. Where `valgrind` is there, growth is told
-by the instructions that it counts, which are the same in every run. Memory is the peak of the longest source. Run it
-after the program was built by the launcher, or name another built program.
+are read. Each time is the least of its runs, with the start of the process; the runs of one form's sizes take turns.
+Where `valgrind` is there, growth is told by the instructions that it counts too, which are the same in every run. Memory
+is the peak of the longest source. Run it after the program was built by the launcher, or name another built program.
 """
 
 import os
@@ -17,7 +17,7 @@ import tempfile
 import time
 
 TOP = pathlib.Path(__file__).resolve().parent.parent
-RUNS = 20
+RUNS = 40
 SIZES = [262_144, 524_288, 1_048_576]
 REFUSED = b"refused X1 1:1\n"
 
@@ -80,16 +80,20 @@ def words_of(program):
     return [program, "clear", "program.oc", "--input1", "input", "--input2", "input"]
 
 
-def least_time(program, folder, source):
+def time_of(program, folder, source):
     (folder / "program.oc").write_bytes(source)
-    times = []
-    for _ in range(RUNS):
-        start = time.perf_counter()
-        ran = subprocess.run(words_of(program), cwd=folder, capture_output=True, check=False)
-        times.append(time.perf_counter() - start)
-        if ran.returncode > 1 or (ran.returncode == 1 and ran.stderr != REFUSED):
-            sys.exit(f"status {ran.returncode}, {ran.stderr!r}")
-    return min(times)
+    start = time.perf_counter()
+    ran = subprocess.run(words_of(program), cwd=folder, capture_output=True, check=False)
+    took = time.perf_counter() - start
+    if ran.returncode > 1 or (ran.returncode == 1 and ran.stderr != REFUSED):
+        sys.exit(f"status {ran.returncode}, {ran.stderr!r}")
+    return took
+
+
+def least_times(program, folder, sources):
+    """The least time of each source, where the runs of all take turns."""
+    runs = [[time_of(program, folder, source) for source in sources] for _ in range(RUNS)]
+    return [min(times) for times in zip(*runs)]
 
 
 def peak_of(program, folder):
@@ -106,11 +110,14 @@ def count_instructions(program, folder, source):
     return int(re.search(rb"Collected : (\d+)", ran.stderr).group(1))
 
 
+def ratios(values):
+    return [f"{after / before:.2f}" for before, after in zip(values, values[1:])]
+
+
 def growth(program, folder, sources):
     if shutil.which("valgrind") is None:
         return ["", ""]
-    counts = [count_instructions(program, folder, source) for source in sources]
-    return [f"{after / before:.2f}" for before, after in zip(counts, counts[1:])]
+    return ratios([count_instructions(program, folder, source) for source in sources])
 
 
 def main():
@@ -118,16 +125,17 @@ def main():
     if not program.exists():
         sys.exit("there is no program: run ./oblivcc first")
     kib = [f"{size // 1024} KiB" for size in SIZES]
-    print("| Source |", " | ".join(kib), f"| Instructions of {kib[1]} to {kib[0]} | of {kib[2]} to {kib[1]} | Most memory | Tokens | A token |")
-    print("|---|---|---|---|---|---|---|---|---|")
+    steps = [f"of {kib[1]} to {kib[0]}", f"of {kib[2]} to {kib[1]}"]
+    print("| Source |", " | ".join(kib), "| Time", " | ".join(steps), "| Instructions", " | ".join(steps), "| Most memory | Tokens | A token |")
+    print("|---" * 11 + "|")
     with tempfile.TemporaryDirectory() as name:
         folder = pathlib.Path(name)
         (folder / "input").write_bytes(b"5\n")
         for form in [blanks, ordinary, statements, expressions, names, defines, long_name]:
             sources = [form(size) for size in SIZES]
-            times = [least_time(program, folder, source) for source in sources]
+            times = least_times(program, folder, sources)
             peak, tokens = peak_of(program, folder), count_tokens(sources[-1])
-            cells = [f"{took * 1000:.0f} ms" for took in times] + growth(program, folder, sources)
+            cells = [f"{took * 1000:.1f} ms" for took in times] + ratios(times) + growth(program, folder, sources)
             cells += [f"{peak / 2**20:.0f} MiB", str(tokens), f"{peak / tokens:.0f} bytes" if tokens > 10_000 else ""]
             print(f"| {form.__name__} |", " | ".join(cells), "|")
 

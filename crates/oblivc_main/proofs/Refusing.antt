@@ -33,7 +33,7 @@ lex_refuses source broken spot h one never = record {
 
 -- of a source with tokens
 module _ (source : List ℕ) (lexed : Lexed) (is : IsLexed source lexed) (only : (tokens : List Token) → Spells source tokens → tokens ≡ lexed.tokens) (spelled : (other : LexRule) (at : Spot) → HasNoTokens source other at → ⊥) where
-  with_parts : List Token → Spot → Lexed
+  abbrev with_parts : List Token → Spot → Lexed
   with_parts tokens end = record { tokens = tokens; end = end }
 
   same_lexed : (other : Lexed) → IsLexed source other → other ≡ lexed

@@ -58,5 +58,5 @@ module _ (told : Told) (before mid after : ℕ) (failed : Option (List ℕ)) (so
         accepted = a;
         first_input = subst (λ f. HasWord f first x) same i;
         second_input = subst (λ f. HasWord f second y) also j;
-        meaning = subst (λ o. Clear t (setup_of x y) items o) (ends_done a.2.program t x y [] 1048576 1000000000 items outcome a.2.first (omega arith) (omega arith) clear) clear;
+        meaning = subst (λ o. Clear t (setup_of x y) items o) (ends_done a.2.typed.program t x y [] 1048576 1000000000 items outcome a.2.typed.first (omega arith) (omega arith) clear) clear;
       }

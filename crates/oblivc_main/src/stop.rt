@@ -9,7 +9,7 @@ use oc_tree::Spot;
 pub enum Rule {
     /// L1 to L6: the source has no tokens.
     Lex(LexRule),
-    /// G1 and G2: its tokens have no tree.
+    /// G2: its tokens nest too deep; G1: they don't, and have no tree.
     Parse(ParseRule),
     /// X1: its tree isn't of the first form.
     First,
