@@ -3,3 +3,12 @@ pub mod Loads
 pub mod Wholes
 pub mod Faulty
 pub mod Answered
+pub mod Under
+pub mod Flows
+pub mod TypeFlows
+pub mod ExprDepths
+pub mod ExprFlows
+pub mod StmtDepths
+pub mod Finishes
+pub mod StmtFinishes
+pub mod Shallow

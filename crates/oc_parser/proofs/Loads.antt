@@ -5,7 +5,7 @@ use Rattle.oc_lexer.specs.declared.token.Token.{Token}
 use Rattle.oc_parser.specs.Load.{Stack, load, counted, passed, effect_of, is_else_next, loads_after, loads, IsLight, HeavyAt}
 use Rattle.oc_parser.specs.Places.{place_spot}
 
-abbrev AllSmall : List ℕ → Type 0
+abbrev pub AllSmall : List ℕ → Type 0
 AllSmall [] = Unit {0}
 AllSmall (x ∷ xs) = (x ≤ 1000) × AllSmall xs
 

@@ -4,3 +4,4 @@ pub mod Refusals
 pub mod Trees
 pub mod Programs
 pub mod Stacks
+pub mod Depth

@@ -1,10 +1,11 @@
 //! From tokens to the tree.
 
-ghost use Rattle.std.specs.Prelude.{◌≡◌, IfOk, IfErr};
+ghost use Rattle.std.specs.Prelude.{◌≡◌, ◌≤◌, IfOk, IfErr};
 ghost use Rattle.oc_tree.specs.declared.spot.Spot.{Spot};
 ghost use Rattle.oc_tree.specs.declared.parsed.Program.{Program};
 ghost use Rattle.oc_grammar.specs.Headings.{Derives};
 ghost use Rattle.oc_parser.specs.declared.faults.ParseRule.{ParseRule};
+ghost use Rattle.oc_parser.specs.Depth.{depth};
 ghost use Rattle.oc_parser.specs.Load.{IsLight};
 ghost use Rattle.oc_parser.specs.Refusals.{Refuses, IfRefused};
 ghost use Rattle.oc_parser.specs.Trees.{IsTree};
@@ -24,6 +25,8 @@ pub fn parse(alloc: Global, lexed: &Lexed) -> Result<Program, ParseFault>
     // There is no other tree, no load is too large, and no rule refuses the tokens.
     ensures only { IfOk result (λ program. (other : Program) → IsTree lexed.now other → other ≡ program) }
     ensures light { IfOk result (λ program. IsLight lexed.now.tokens) }
+    // No node of the tree lies under 1,000 others or more.
+    ensures shallow { IfOk result (λ program. depth program ≤ 1000) }
     ensures accepted { IfOk result (λ program. (rule : ParseRule) (spot : Spot) → Refuses lexed.now rule spot → ⊥) }
 
     // The rule and the spot are those that refuse the tokens.
