@@ -1,15 +1,15 @@
 -- What a call answers that found its cell, or met a trap.
 use Rattle.std.proofs.Common.{◌≡◌, refl, sym, ap, ◌∙◌, List, Result, Ok, Err, true, false, arith}
-use Rattle.oc_tree.specs.declared.types.CType.{CType}
-use Rattle.oc_tree.specs.declared.memory.Address.{Address}
-use Rattle.oc_tree.specs.declared.memory.Address.TheVariants.{Null, At}
-use Rattle.oc_tree.specs.declared.memory.CellValue.{CellValue}
-use Rattle.oc_tree.specs.declared.memory.Cell.{Cell}
-use Rattle.oc_tree.specs.declared.memory.Block.{Block}
-use Rattle.oc_tree.specs.declared.outcome.TrapKind.{TrapKind}
-use Rattle.oc_tree.specs.declared.outcome.TrapKind.TheVariants.{M5}
-use Rattle.oc_tree.specs.Types.{same, fits}
-use Rattle.oc_tree.specs.Memory.{then, only, cell, load, storable, store, put}
+use Rattle.oc_cells.specs.declared.types.CType.{CType}
+use Rattle.oc_cells.specs.declared.memory.Address.{Address}
+use Rattle.oc_cells.specs.declared.memory.Address.TheVariants.{Null, At}
+use Rattle.oc_cells.specs.declared.memory.CellValue.{CellValue}
+use Rattle.oc_cells.specs.declared.memory.Cell.{Cell}
+use Rattle.oc_cells.specs.declared.memory.Block.{Block}
+use Rattle.oc_cells.specs.declared.trap.TrapKind.{TrapKind}
+use Rattle.oc_cells.specs.declared.trap.TrapKind.TheVariants.{M5}
+use Rattle.oc_cells.specs.Types.{same, fits}
+use Rattle.oc_cells.specs.Memory.{then, only, cell, load, storable, store, put}
 use Rattle.block_memory.specs.Content.{ahead}
 
 pub ahead_none : (at : Address) → ahead at 0 ≡ at

@@ -1,10 +1,10 @@
 -- Each law of memory at any two contents, and at integers against operands.
 use Rattle.std.proofs.Common.{◌≡◌, refl, pos, List, Option}
 use Rattle.oc_values.specs.declared.integers.IntKind.{IntKind}
-use Rattle.oc_tree.specs.declared.memory.Block.{Block}
-use Rattle.oc_tree.specs.Joined.{SameOption, nothing, some, SameBlock, lives, gones, SameMemory}
+use Rattle.oc_cells.specs.declared.memory.Block.{Block}
+use Rattle.oc_cells.specs.Joined.{SameOption, nothing, some, SameBlock, lives, gones, SameMemory}
 use Rattle.block_memory.specs.Content.{is_live}
-use Rattle.oc_tree.proofs.Joined.{load_same, store_same, offset_same, copy_same, ended_same, free_same, make_copies_same, living_same, length_same, get_same}
+use Rattle.oc_cells.proofs.Joined.{load_same, store_same, offset_same, copy_same, ended_same, free_same, make_copies_same, living_same, length_same, get_same}
 use Rattle.block_memory.specs.Laws.{AnswerAlike, known, OperandsAgree}
 
 live_alike : {H K : Type 0} {R : H → K → Type 0} {a : Option (Block H)} {b : Option (Block K)} → SameOption (SameBlock R) a b → is_live a ≡ is_live b

@@ -1,14 +1,14 @@
 -- Cells that are checked and copied one after the other.
 use Rattle.std.proofs.Common.{ℕ, zero, suc, ◌+◌, ◌-◌, ◌<◌, ◌≤◌, ◌≡◌, refl, sym, ap, ◌∙◌, subst, List, [], ◌∷◌, length, drop, Option, Some, None, slice_get, Ok, Err, true, false, arith}
-use Rattle.oc_tree.specs.declared.types.CType.{CType}
-use Rattle.oc_tree.specs.declared.memory.Address.{Address}
-use Rattle.oc_tree.specs.declared.memory.Address.TheVariants.{Null, At}
-use Rattle.oc_tree.specs.declared.memory.Cell.{Cell}
-use Rattle.oc_tree.specs.declared.memory.Block.{Block}
-use Rattle.oc_tree.specs.declared.outcome.TrapKind.{TrapKind}
-use Rattle.oc_tree.specs.declared.outcome.TrapKind.TheVariants.{M5}
-use Rattle.oc_tree.specs.Types.{same, fits}
-use Rattle.oc_tree.specs.Memory.{then, only, cell, load, loadable, storable, all_storable, take_over, copied, next}
+use Rattle.oc_cells.specs.declared.types.CType.{CType}
+use Rattle.oc_cells.specs.declared.memory.Address.{Address}
+use Rattle.oc_cells.specs.declared.memory.Address.TheVariants.{Null, At}
+use Rattle.oc_cells.specs.declared.memory.Cell.{Cell}
+use Rattle.oc_cells.specs.declared.memory.Block.{Block}
+use Rattle.oc_cells.specs.declared.trap.TrapKind.{TrapKind}
+use Rattle.oc_cells.specs.declared.trap.TrapKind.TheVariants.{M5}
+use Rattle.oc_cells.specs.Types.{same, fits}
+use Rattle.oc_cells.specs.Memory.{then, only, cell, load, loadable, storable, all_storable, take_over, copied, next}
 use Rattle.block_memory.specs.Content.{ahead}
 use Rattle.block_memory.proofs.Accesses.{ahead_none}
 

@@ -5,19 +5,19 @@ use Rattle.std.proofs.lemmas.Bool.{false≢true}
 use Rattle.oc_values.specs.declared.integers.IntKind.{IntKind}
 use Rattle.oc_values.specs.declared.integers.IntKind.TheVariants.{Bool as KBool, I8, U8, I16, U16, I32, U32, I64, U64}
 use Rattle.oc_values.specs.Integers.{IsOfKind}
-use Rattle.oc_tree.specs.declared.types.CType.{CType, Int as CInt, Pointer', Array', Struct, Nothing}
-use Rattle.oc_tree.specs.declared.memory.Address.{Address}
-use Rattle.oc_tree.specs.declared.memory.Address.TheVariants.{Null, At}
-use Rattle.oc_tree.specs.declared.memory.CellValue.{CellValue}
-use Rattle.oc_tree.specs.declared.memory.CellValue.TheVariants.{Int, Pointer, Hidden}
-use Rattle.oc_tree.specs.declared.memory.Cell.{Cell}
-use Rattle.oc_tree.specs.declared.memory.Block.{Block}
-use Rattle.oc_tree.specs.declared.memory.Block.TheVariants.{Live, Gone}
-use Rattle.oc_tree.specs.declared.outcome.TrapKind.{TrapKind}
-use Rattle.oc_tree.specs.Types.{same, fits, IsLeaf}
-use Rattle.oc_tree.proofs.Equal.{same_is, same_back}
+use Rattle.oc_cells.specs.declared.types.CType.{CType, Int as CInt, Pointer', Array', Struct, Nothing}
+use Rattle.oc_cells.specs.declared.memory.Address.{Address}
+use Rattle.oc_cells.specs.declared.memory.Address.TheVariants.{Null, At}
+use Rattle.oc_cells.specs.declared.memory.CellValue.{CellValue}
+use Rattle.oc_cells.specs.declared.memory.CellValue.TheVariants.{Int, Pointer, Hidden}
+use Rattle.oc_cells.specs.declared.memory.Cell.{Cell}
+use Rattle.oc_cells.specs.declared.memory.Block.{Block}
+use Rattle.oc_cells.specs.declared.memory.Block.TheVariants.{Live, Gone}
+use Rattle.oc_cells.specs.declared.trap.TrapKind.{TrapKind}
+use Rattle.oc_cells.specs.Types.{same, fits, IsLeaf}
+use Rattle.oc_cells.proofs.Equal.{same_is, same_back}
 use Rattle.block_memory.specs.Content.{AreLeaves}
-use Rattle.oc_tree.specs.Memory.{then, live, within, only, cell, load, loadable, storable, all_storable, update, written, in_live, put, take_over, copied, next, ended, blank, blanks, HasForm, CellsHaveForm, BlockHasForm, AllHaveForm}
+use Rattle.oc_cells.specs.Memory.{then, live, within, only, cell, load, loadable, storable, all_storable, update, written, in_live, put, take_over, copied, next, ended, blank, blanks, HasForm, CellsHaveForm, BlockHasForm, AllHaveForm}
 
 abbrev IsAnswer : {A : Type 0} → Result A TrapKind → Type 0
 IsAnswer (Ok a) = Unit {0}

@@ -2,11 +2,11 @@
 use Rattle.std.proofs.Common.{ℕ, ◌+◌, ◌<◌, ◌≤◌, ◌≡◌, refl, sym, ap, ◌∙◌, List, [], ◌∷◌, ◌++◌, suc, take, length, get_or, append_assoc, arith}
 use Rattle.std.proofs.lemmas.List.{take_more}
 use Rattle.oc_values.specs.declared.integers.IntKind.{IntKind}
-use Rattle.oc_tree.specs.declared.types.CType.{CType, Array}
-use Rattle.oc_tree.specs.declared.memory.Cell.{Cell}
-use Rattle.oc_tree.specs.Layout.{leaves, repeated}
-use Rattle.oc_tree.specs.Memory.{blank, blanks}
-use Rattle.oc_tree.proofs.Views.{leaves_array}
+use Rattle.oc_cells.specs.declared.types.CType.{CType, Array}
+use Rattle.oc_cells.specs.declared.memory.Cell.{Cell}
+use Rattle.oc_cells.specs.Layout.{leaves, repeated}
+use Rattle.oc_cells.specs.Memory.{blank, blanks}
+use Rattle.oc_cells.proofs.Views.{leaves_array}
 
 counted : (k n : ℕ) → k ≤ n → n ≤ k → k ≡ n
 counted k n h i = omega (arith, h, i)

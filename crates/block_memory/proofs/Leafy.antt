@@ -1,9 +1,9 @@
 -- The leaves of types are integer and pointer types.
 use Rattle.std.proofs.Common.{ℕ, zero, suc, List, [], ◌∷◌, ◌++◌, slice_get}
-use Rattle.oc_tree.specs.declared.types.CType.{CType, Int, Pointer', Array', Struct, Nothing, Row_of-CType, end_of-CType, more_of-CType}
-use Rattle.oc_tree.specs.declared.types.FieldType.{FieldType}
-use Rattle.oc_tree.specs.declared.types.StructType.{StructType}
-use Rattle.oc_tree.specs.Layout.{repeated, or_none, leaves, leaves_row, field_leaves, leaves_after, struct_leaves}
+use Rattle.oc_cells.specs.declared.types.CType.{CType, Int, Pointer', Array', Struct, Nothing, Row_of-CType, end_of-CType, more_of-CType}
+use Rattle.oc_cells.specs.declared.types.FieldType.{FieldType}
+use Rattle.oc_cells.specs.declared.types.StructType.{StructType}
+use Rattle.oc_cells.specs.Layout.{repeated, or_none, leaves, leaves_row, field_leaves, leaves_after, struct_leaves}
 use Rattle.block_memory.specs.Content.{AreLeaves, AllAreLeaves}
 
 leafy_join : (ks ls : List CType) → AreLeaves ks → AreLeaves ls → AreLeaves (ks ++ ls)

@@ -6,12 +6,12 @@ use Rattle.std.proofs.Math.IntN.{nat_abs}
 use Rattle.std.proofs.lemmas.Bool.{false≢true}
 use Rattle.std.proofs.lemmas.Int.{ints}
 use Rattle.oc_values.specs.declared.integers.IntKind.{IntKind}
-use Rattle.oc_tree.specs.declared.types.CType.{CType}
-use Rattle.oc_tree.specs.declared.memory.Block.{Block}
-use Rattle.oc_tree.specs.declared.memory.Block.TheVariants.{Live}
-use Rattle.oc_tree.specs.declared.outcome.TrapKind.TheVariants.{M4}
-use Rattle.oc_tree.specs.Layout.{repeated}
-use Rattle.oc_tree.specs.Memory.{weight, living, blanks, joined, make_copies}
+use Rattle.oc_cells.specs.declared.types.CType.{CType}
+use Rattle.oc_cells.specs.declared.memory.Block.{Block}
+use Rattle.oc_cells.specs.declared.memory.Block.TheVariants.{Live}
+use Rattle.oc_cells.specs.declared.trap.TrapKind.TheVariants.{M4}
+use Rattle.oc_cells.specs.Layout.{repeated}
+use Rattle.oc_cells.specs.Memory.{weight, living, blanks, joined, make_copies}
 use Rattle.block_memory.proofs.Living.{weight_of_copies, living_more}
 
 le_of : (m n : ℕ) → nat_le m n ≡ true → m ≤ n

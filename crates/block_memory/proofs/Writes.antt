@@ -1,15 +1,15 @@
 -- A cell that is written, as the code writes it, and what stays the same.
 use Rattle.std.proofs.Common.{ℕ, zero, suc, ◌+◌, ◌≤◌, ◌≡◌, refl, sym, ap, ◌∙◌, List, [], ◌∷◌, Some, slice_get, slice_set, length, arith, Bool}
-use Rattle.oc_tree.specs.declared.memory.Address.{Address}
-use Rattle.oc_tree.specs.declared.memory.Address.TheVariants.{Null, At}
-use Rattle.oc_tree.specs.declared.memory.CellValue.{CellValue}
-use Rattle.oc_tree.specs.declared.memory.Cell.{Cell}
-use Rattle.oc_tree.specs.declared.memory.Block.{Block}
-use Rattle.oc_tree.specs.declared.memory.Block.TheVariants.{Live, Gone}
-use Rattle.oc_tree.specs.Memory.{update, written, in_live, put, weight, living, copied, take_over, cell, next}
-use Rattle.oc_tree.specs.declared.outcome.TrapKind.{TrapKind}
+use Rattle.oc_cells.specs.declared.memory.Address.{Address}
+use Rattle.oc_cells.specs.declared.memory.Address.TheVariants.{Null, At}
+use Rattle.oc_cells.specs.declared.memory.CellValue.{CellValue}
+use Rattle.oc_cells.specs.declared.memory.Cell.{Cell}
+use Rattle.oc_cells.specs.declared.memory.Block.{Block}
+use Rattle.oc_cells.specs.declared.memory.Block.TheVariants.{Live, Gone}
+use Rattle.oc_cells.specs.Memory.{update, written, in_live, put, weight, living, copied, take_over, cell, next}
+use Rattle.oc_cells.specs.declared.trap.TrapKind.{TrapKind}
 use Rattle.std.proofs.Common.{Result, Ok, Err}
-use Rattle.oc_tree.proofs.Updates.{set_update, set_twice}
+use Rattle.oc_cells.proofs.Updates.{set_update, set_twice}
 use Rattle.block_memory.specs.Content.{ahead}
 
 pub update_past : {A : Type 0} (f : A → A) (xs : List A) (i : ℕ) → length xs ≤ i → update f xs i ≡ xs

@@ -1,13 +1,13 @@
 -- What the blocks of a run are to contracts, and what the calls that change them answer.
 use Rattle.std.specs.Prelude.{◌≡◌, ◌≤◌, ◌<◌, nat_le, Bool, ◌&&◌, ℕ, ◌+◌, List, [], ◌∷◌, length, slice_get, Option, Some, Result, Ok, Err, true, false}
-use Rattle.oc_tree.specs.declared.types.CType.{CType}
-use Rattle.oc_tree.specs.declared.memory.Address.{Address}
-use Rattle.oc_tree.specs.declared.memory.Address.TheVariants.{Null, At}
-use Rattle.oc_tree.specs.declared.memory.Block.{Block}
-use Rattle.oc_tree.specs.declared.memory.Block.TheVariants.{Live}
-use Rattle.oc_tree.specs.declared.outcome.TrapKind.{TrapKind}
-use Rattle.oc_tree.specs.Types.{IsLeaf}
-use Rattle.oc_tree.specs.Memory.{living, AllHaveForm}
+use Rattle.oc_cells.specs.declared.types.CType.{CType}
+use Rattle.oc_cells.specs.declared.memory.Address.{Address}
+use Rattle.oc_cells.specs.declared.memory.Address.TheVariants.{Null, At}
+use Rattle.oc_cells.specs.declared.memory.Block.{Block}
+use Rattle.oc_cells.specs.declared.memory.Block.TheVariants.{Live}
+use Rattle.oc_cells.specs.declared.trap.TrapKind.{TrapKind}
+use Rattle.oc_cells.specs.Types.{IsLeaf}
+use Rattle.oc_cells.specs.Memory.{living, AllHaveForm}
 use Rattle.block_memory.specs.declared.blocks.MakeRefusal.{MakeRefusal}
 use Rattle.block_memory.specs.declared.blocks.MakeRefusal.TheVariants.{Trap, NoMemory}
 

@@ -1,12 +1,12 @@
 -- Two memories that answer alike.
 use Rattle.std.specs.Prelude.{◌≡◌, ℕ, ℤ, pos, Bool, List, length, slice_get, Some}
 use Rattle.oc_values.specs.declared.integers.IntKind.{IntKind}
-use Rattle.oc_tree.specs.declared.types.CType.{CType}
-use Rattle.oc_tree.specs.declared.memory.Address.{Address}
-use Rattle.oc_tree.specs.declared.memory.CellValue.{CellValue}
-use Rattle.oc_tree.specs.declared.memory.Block.{Block}
-use Rattle.oc_tree.specs.Memory.{load, store, offset, copy, ended, free, living, make_copies}
-use Rattle.oc_tree.specs.Joined.{SameAnswer, SameValue, SameMemory}
+use Rattle.oc_cells.specs.declared.types.CType.{CType}
+use Rattle.oc_cells.specs.declared.memory.Address.{Address}
+use Rattle.oc_cells.specs.declared.memory.CellValue.{CellValue}
+use Rattle.oc_cells.specs.declared.memory.Block.{Block}
+use Rattle.oc_cells.specs.Memory.{load, store, offset, copy, ended, free, living, make_copies}
+use Rattle.oc_cells.specs.Joined.{SameAnswer, SameValue, SameMemory}
 use Rattle.block_memory.specs.Content.{is_live}
 
 -- each call answers alike on two memories, and leaves them alike

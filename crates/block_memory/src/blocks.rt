@@ -1,18 +1,19 @@
 //! The blocks of a run.
 
 ghost use Rattle.std.specs.Prelude.{◌≡◌, ◌+◌, ◌≤◌, ◌^◌, pos, ◌+ℤ◌, ◌*ℤ◌, nat_le, nat_lt, ◌&&◌, ◌<◌, ◌*◌, ◌++◌, max, length, slice_get, [], IfOk, OnOk, IsTrue};
-ghost use Rattle.oc_tree.specs.Layout.{leaves, struct_leaves, repeated};
-ghost use Rattle.oc_tree.specs.Memory.{load, store, storable, copy, offset, placed, ended, free, living, make_copies, blanks, HasForm};
+ghost use Rattle.oc_cells.specs.Layout.{leaves, struct_leaves, repeated};
+ghost use Rattle.oc_cells.specs.Memory.{load, store, storable, copy, offset, placed, ended, free, living, make_copies, blanks, HasForm};
 ghost use Rattle.block_memory.specs.Content.{Memory, has_size, is_live, Changes, Makes, IsKept};
 
 use crate::cells::{find_cell, put_cell, weigh};
 use crate::copying::{check_loads, check_stores, copy_all};
 use crate::hidden::{HiddenCell, copy_value};
 use crate::layout::{Table, count_cells, push_blanks};
-use oc_tree::{
-    Address, Block, CType, Cell, CellValue, Items, NoMemory, Row, StructType, TrapKind, fits_type,
-    same_type, table_of,
+use oc_cells::{
+    Address, Block, CType, Cell, CellValue, Row, StructType, TrapKind, fits_type, same_type,
+    table_of,
 };
+use oc_values::{Items, NoMemory};
 use std::alloc::{AllocError, Global};
 use std::marker::Model;
 
@@ -43,9 +44,9 @@ pub struct Blocks<'t, C> {
 
 impl<'t, C> Model for Blocks<'t, C> {
     ghost use Rattle.std.specs.Prelude.{◌≡◌, ◌≤◌, ◌<◌, ◌^◌};
-    ghost use Rattle.oc_tree.specs.Memory.{living, AllHaveForm};
+    ghost use Rattle.oc_cells.specs.Memory.{living, AllHaveForm};
     ghost use Rattle.block_memory.specs.Content.{Memory, AllAreLeaves};
-    ghost use Rattle.oc_tree.specs.contracts.types.CType as e;
+    ghost use Rattle.oc_cells.specs.contracts.types.CType as e;
     ghost use Rattle.std.specs.Coded.{codes};
 
     ghost Value = { Memory C };

@@ -1,10 +1,10 @@
 //! Single cells and blocks.
 
 ghost use Rattle.std.specs.Prelude.{◌≡◌, Ok, Err, IfOk, IfErr};
-ghost use Rattle.oc_tree.specs.Memory.{cell, put, update, written, weight};
+ghost use Rattle.oc_cells.specs.Memory.{cell, put, update, written, weight};
 ghost use Rattle.block_memory.specs.Content.{ahead};
 
-use oc_tree::{Address, Block, Cell, CellValue, Row, TrapKind};
+use oc_cells::{Address, Block, Cell, CellValue, Row, TrapKind};
 
 /// The cell so many places after an address.
 pub fn find_cell<'a, 't, C>(

@@ -1,14 +1,14 @@
 //! Cells that are copied in ascending order.
 
 ghost use Rattle.std.specs.Prelude.{◌≡◌, ◌≤◌, length};
-ghost use Rattle.oc_tree.specs.Layout.{leaves};
-ghost use Rattle.oc_tree.specs.Memory.{loadable, all_storable, copied, take_over, cell};
+ghost use Rattle.oc_cells.specs.Layout.{leaves};
+ghost use Rattle.oc_cells.specs.Memory.{loadable, all_storable, copied, take_over, cell};
 ghost use Rattle.block_memory.specs.Content.{ahead};
 
 use crate::cells::{find_cell, put_cell};
 use crate::hidden::{HiddenCell, copy_value};
 use crate::layout::{Table, count_cells, leaf_at};
-use oc_tree::{Address, Block, CType, Row, TrapKind, fits_type, same_type};
+use oc_cells::{Address, Block, CType, Row, TrapKind, fits_type, same_type};
 
 /// Whether the leaves of a type are read one after the other from an address, or the first trap.
 pub fn check_loads<'x, 't, C>(

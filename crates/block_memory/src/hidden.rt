@@ -2,7 +2,8 @@
 
 ghost use Rattle.std.specs.Prelude.{◌≡◌};
 
-use oc_tree::{CellValue, IntKind};
+use oc_cells::CellValue;
+use oc_values::IntKind;
 
 /// What a hidden integer is to whoever keeps the blocks.
 pub trait HiddenCell {

@@ -2,12 +2,12 @@
 
 ghost use Rattle.std.specs.Prelude.{◌≡◌, ◌++◌, ◌∷◌, [], length, OnOk};
 ghost use Rattle.std.specs.Option.{option_copied};
-ghost use Rattle.oc_tree.specs.Layout.{leaves};
-ghost use Rattle.oc_tree.specs.Memory.{blank, blanks};
+ghost use Rattle.oc_cells.specs.Layout.{leaves};
+ghost use Rattle.oc_cells.specs.Memory.{blank, blanks};
 ghost use Rattle.block_memory.specs.Content.{Counts, FindsLeaf};
 
 use crate::hidden::HiddenCell;
-use oc_tree::{Address, CType, Cell, CellValue, Leaf, Row};
+use oc_cells::{Address, CType, Cell, CellValue, Leaf, Row};
 use std::alloc::AllocError;
 
 /// The leaves of each struct, by its number.

@@ -16,7 +16,7 @@ mod layout;
 pub use blocks::{Blocks, MakeRefusal};
 pub use hidden::HiddenCell;
 pub use laws::operands_agree;
-pub use oc_tree::{Address, CType, CellValue, StructType, TrapKind};
+pub use oc_cells::{Address, CType, CellValue, StructType, TrapKind};
 
 #[cfg(test)]
 mod tests;

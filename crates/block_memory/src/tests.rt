@@ -1,5 +1,6 @@
 use super::*;
-use oc_tree::{Boxed, FieldType, IntKind, Items, Name, NoMemory};
+use oc_cells::FieldType;
+use oc_values::{Boxed, IntKind, Items, Name, NoMemory};
 use std::alloc::{AllocError, Global};
 use std::process::Abort;
 use std::test::Fail;

@@ -2,10 +2,10 @@
 use Rattle.std.proofs.Common.{ℕ, ◌+◌, ◌<◌, ◌≡◌, refl, sym, ap, ◌∙◌, List, [], ◌∷◌, ◌++◌, take, length, get_or}
 use Rattle.std.proofs.lemmas.List.{take_more}
 use Rattle.oc_values.specs.declared.integers.IntKind.{IntKind}
-use Rattle.oc_tree.specs.declared.types.CType.{CType}
-use Rattle.oc_tree.specs.declared.memory.Cell.{Cell}
-use Rattle.oc_tree.specs.declared.memory.CellValue.{CellValue}
-use Rattle.oc_tree.specs.Memory.{blank, blanks}
+use Rattle.oc_cells.specs.declared.types.CType.{CType}
+use Rattle.oc_cells.specs.declared.memory.Cell.{Cell}
+use Rattle.oc_cells.specs.declared.memory.CellValue.{CellValue}
+use Rattle.oc_cells.specs.Memory.{blank, blanks}
 
 module _ {H : Type 0} (zero_of : IntKind → H) where
   blanks_more : (ls : List CType) (l : CType) → blanks zero_of (ls ++ l ∷ []) ≡ blanks zero_of ls ++ record { leaf = l; value = blank zero_of l } ∷ []

@@ -3,8 +3,8 @@ use Rattle.std.proofs.Common.{ℕ, suc, ◌+◌, ◌-◌, ◌≡◌, ◌<◌, le
 use Rattle.oc_tree.specs.declared.run.ClearSetup.{ClearSetup}
 use Rattle.oc_tree.specs.declared.run.Flow.{Flow}
 use Rattle.oc_tree.specs.declared.run.Flow.TheVariants.{Next}
-use Rattle.oc_tree.specs.declared.memory.Address.TheVariants.{At}
-use Rattle.oc_tree.specs.declared.types.SlotType.{SlotType}
+use Rattle.oc_cells.specs.declared.memory.Address.TheVariants.{At}
+use Rattle.oc_cells.specs.declared.types.SlotType.{SlotType}
 use Rattle.oc_tree.specs.declared.typed.TExpr.{TExpr}
 use Rattle.oc_tree.specs.declared.typed.Declared.{Declared}
 use Rattle.oc_tree.specs.declared.typed.Stmt.{Stmt}

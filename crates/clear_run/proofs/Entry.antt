@@ -5,7 +5,7 @@ use Rattle.oc_tree.specs.declared.run.ShownItem.{ShownItem}
 use Rattle.oc_tree.specs.declared.run.Named.{Named}
 use Rattle.oc_tree.specs.declared.run.Flow.{Flow}
 use Rattle.oc_tree.specs.declared.run.Flow.TheVariants.{Next}
-use Rattle.oc_tree.specs.declared.memory.Block.{Block}
+use Rattle.oc_cells.specs.declared.memory.Block.{Block}
 use Rattle.oc_tree.specs.declared.outcome.Outcome.{Outcome}
 use Rattle.oc_tree.specs.declared.outcome.Outcome.TheVariants.{Done}
 use Rattle.oc_tree.specs.declared.typed.Stmt.{Stmt}

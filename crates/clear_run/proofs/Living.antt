@@ -1,7 +1,7 @@
 -- The live cells of the first blocks of a list.
 use Rattle.std.proofs.Common.{ℕ, zero, suc, ◌≡◌, ◌+◌, ◌<◌, arith, refl, List, [], ◌∷◌, take, length, get_or}
-use Rattle.oc_tree.specs.declared.memory.Block.{Block}
-use Rattle.oc_tree.specs.Memory.{living, weight}
+use Rattle.oc_cells.specs.declared.memory.Block.{Block}
+use Rattle.oc_cells.specs.Memory.{living, weight}
 
 -- one block more
 pub living_more : {H : Type 0} (bs : List (Block H)) (i j : ℕ) (b : Block H) → j ≡ suc i → i < length bs → b ≡ get_or bs i b → living (take j bs) ≡ living (take i bs) + weight b

@@ -5,7 +5,7 @@ use Rattle.oc_tree.specs.declared.run.Value.{Value}
 use Rattle.oc_tree.specs.declared.run.Value.TheVariants.{Pointer}
 use Rattle.oc_tree.specs.Values.{reads}
 use Rattle.clear_run.proofs.Views.{read_at, address_at, builtin_at}
-use Rattle.oc_tree.specs.declared.memory.Address.{Address}
+use Rattle.oc_cells.specs.declared.memory.Address.{Address}
 use Rattle.oc_tree.specs.declared.typed.TExpr.{TExpr}
 use Rattle.oc_tree.specs.declared.typed.TPlace.{TPlace}
 use Rattle.oc_tree.specs.declared.typed.ExprNode.{ExprNode, Read, AddressOf, Builtin as Call}

@@ -4,7 +4,7 @@ use Rattle.std.specs.Prelude.{unwrap_or}
 use Rattle.std.proofs.lemmas.Bool.Decides.{nat_tests}
 use Rattle.oc_values.specs.declared.integers.IntKind.{IntKind}
 use Rattle.oc_values.specs.Integers.{convert}
-use Rattle.oc_tree.specs.declared.spot.Spot.{Spot}
+use Rattle.oc_source.specs.declared.spot.Spot.{Spot}
 use Rattle.oc_tree.specs.declared.run.ShownItem.{ShownItem}
 use Rattle.oc_tree.specs.declared.run.ClearSetup.{ClearSetup}
 use Rattle.oc_tree.specs.declared.run.Value.{Value}

@@ -1,26 +1,26 @@
 -- What a run in the clear does, as the code holds it.
 use Rattle.std.specs.Prelude.{ℕ, ◌≡◌, ◌<◌, ℤ, pos, negsuc, List, [], ◌∷◌, ◌++◌, Result, Ok, Err, true, Option, Some, None, reverse, length, slice_get}
 use Rattle.oc_values.specs.declared.integers.IntKind.{IntKind}
-use Rattle.oc_tree.specs.declared.memory.Block.{Block}
-use Rattle.oc_tree.specs.declared.memory.Block.TheVariants.{Live, Gone}
+use Rattle.oc_cells.specs.declared.memory.Block.{Block}
+use Rattle.oc_cells.specs.declared.memory.Block.TheVariants.{Live, Gone}
 use Rattle.oc_tree.specs.declared.run.ShownItem.{ShownItem}
 use Rattle.oc_tree.specs.declared.run.ClearSetup.{ClearSetup}
 use Rattle.oc_tree.specs.declared.run.Value.{Value}
 use Rattle.oc_tree.specs.declared.run.Value.TheVariants.{Int, Pointer, Hidden, Nothing}
-use Rattle.oc_tree.specs.declared.memory.CellValue.{CellValue}
-use Rattle.oc_tree.specs.declared.memory.CellValue.TheVariants.{Int as CellInt, Pointer as CellPointer, Hidden as CellHidden}
+use Rattle.oc_cells.specs.declared.memory.CellValue.{CellValue}
+use Rattle.oc_cells.specs.declared.memory.CellValue.TheVariants.{Int as CellInt, Pointer as CellPointer, Hidden as CellHidden}
 use Rattle.oc_tree.specs.declared.run.Flow.{Flow}
-use Rattle.oc_tree.specs.declared.memory.Address.{Address}
-use Rattle.oc_tree.specs.declared.types.SlotType.{SlotType}
+use Rattle.oc_cells.specs.declared.memory.Address.{Address}
+use Rattle.oc_cells.specs.declared.types.SlotType.{SlotType}
 use Rattle.oc_tree.specs.declared.typed.TExpr.{TExpr}
 use Rattle.oc_tree.specs.declared.typed.TPlace.{TPlace}
 use Rattle.oc_tree.specs.declared.typed.Stmt.{Stmt}
 use Rattle.oc_tree.specs.declared.typed.Declared.{Declared}
-use Rattle.oc_tree.specs.declared.spot.Spot.{Spot}
-use Rattle.oc_tree.specs.declared.outcome.TrapKind.{TrapKind}
+use Rattle.oc_source.specs.declared.spot.Spot.{Spot}
+use Rattle.oc_cells.specs.declared.trap.TrapKind.{TrapKind}
 use Rattle.oc_tree.specs.declared.outcome.Outcome.TheVariants.{Trap}
 use Rattle.oc_values.specs.Integers.{convert}
-use Rattle.oc_tree.specs.declared.outcome.TrapKind.TheVariants.{I1}
+use Rattle.oc_cells.specs.declared.trap.TrapKind.TheVariants.{I1}
 use Rattle.oc_tree.specs.Walk.{cost}
 use Rattle.oc_tree.specs.Walking.{Mem, trap, transfers, State, Res, Go, Stop, Ended, Act, bind, pure}
 use Rattle.oc_tree.specs.Walk.{Around, A, V, whole, place, source_at, declares, declares_all, stepped, listed}

@@ -11,9 +11,10 @@ ghost use Rattle.clear_run.specs.declared.machine.Fault.TheVariants.{Ended as St
 
 use crate::machine::{Fault, Machine};
 use crate::memory::{load_cell, make_block, store_cell};
-use oc_tree::{
-    Address, BinaryOp, CType, CellValue, ClearSetup, Named, Outcome, Spot, TrapKind, Value,
-};
+use oc_cells::{Address, CType, CellValue, TrapKind};
+use oc_source::Spot;
+use oc_tree::{ClearSetup, Named, Outcome, Value};
+use oc_values::BinaryOp;
 use oc_values::{add, subtract};
 use std::alloc::Global;
 

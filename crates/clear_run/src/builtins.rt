@@ -11,10 +11,10 @@ ghost use Rattle.clear_run.specs.Runs.{Does, state, word_at, fed};
 use crate::actions::trap;
 use crate::machine::{Fault, Machine};
 use crate::memory::store_cell;
-use oc_tree::{
-    Builtin, CType, CellValue, ClearSetup, IntKind, Outcome, PrintPiece, ShownItem, Source, Spot,
-    TrapKind, Value, convert,
-};
+use oc_cells::{CType, CellValue, TrapKind};
+use oc_source::Spot;
+use oc_tree::{Builtin, ClearSetup, Outcome, PrintPiece, ShownItem, Source, Value};
+use oc_values::{IntKind, convert};
 use oc_values::{Items, Name};
 use std::alloc::{AllocError, Global};
 

@@ -10,10 +10,8 @@ use crate::actions::{
 };
 use crate::builtins::perform;
 use crate::machine::{Fault, Machine};
-use oc_tree::{
-    Address, Builtin, ClearSetup, Declared, ExprNode, Flow, Outcome, PlaceNode, Row, ShownItem,
-    SlotType, Source, Stmt, StmtNode, TExpr, TPlace, TrapKind, Typed, TypedFunction, Value,
-};
+use oc_cells::{Address, Row, SlotType, TrapKind};
+use oc_tree::{Builtin, ClearSetup, Declared, ExprNode, Flow, Outcome, PlaceNode, ShownItem, Source, Stmt, StmtNode, TExpr, TPlace, Typed, TypedFunction, Value};
 use oc_values::{Items, NoMemory};
 use std::alloc::Global;
 

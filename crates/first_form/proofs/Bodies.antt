@@ -2,9 +2,9 @@
 use Rattle.std.proofs.Common.{◌≡◌, ◌≤◌, ◌<◌, ◌+◌, take, get_or, refl, sym, ap, subst, ◌∙◌, ℕ, suc, ◌∷◌, [], ◌++◌, List, true, length, drop, map, append_assoc, arith}
 use Rattle.std.proofs.lemmas.Bool.{and_parts, and_from}
 use Rattle.std.proofs.lemmas.List.{append-nil, length-append, take_more, take_all, drop_more, take-append-drop}
-use Rattle.oc_tree.specs.declared.spot.Spot.{Spot}
-use Rattle.oc_tree.specs.declared.parsed.Stmt.{Stmt as ParsedStmt}
-use Rattle.oc_tree.specs.declared.types.SlotType.{SlotType}
+use Rattle.oc_source.specs.declared.spot.Spot.{Spot}
+use Rattle.oc_source.specs.declared.parsed.Stmt.{Stmt as ParsedStmt}
+use Rattle.oc_cells.specs.declared.types.SlotType.{SlotType}
 use Rattle.oc_tree.specs.declared.typed.Stmt.{Stmt}
 use Rattle.first_form.specs.Items.{Item, Named, is_item, are_items, declared_by}
 use Rattle.first_form.specs.Trees.{first_of, parsed, parsed_items, statement, statements, slot_type, all_declared}

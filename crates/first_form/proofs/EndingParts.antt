@@ -7,15 +7,15 @@ use Rattle.std.proofs.lemmas.List.{length-map}
 use Rattle.oc_values.specs.declared.integers.IntKind.TheVariants.{I32, I64}
 use Rattle.oc_values.specs.declared.integers.BinaryOp.{BinaryOp}
 use Rattle.oc_values.specs.Integers.{operate, convert}
-use Rattle.oc_tree.specs.declared.spot.Spot.{Spot}
-use Rattle.oc_tree.specs.declared.types.CType.{CType, Int}
+use Rattle.oc_source.specs.declared.spot.Spot.{Spot}
+use Rattle.oc_cells.specs.declared.types.CType.{CType, Int}
 use Rattle.oc_tree.specs.declared.typed.TExpr.{TExpr}
 use Rattle.oc_tree.specs.declared.typed.ExprNode.{Number, Binary, Builtin as Call}
 use Rattle.oc_tree.specs.declared.typed.Builtin.TheVariants.{Private, Feed}
-use Rattle.oc_tree.specs.declared.types.SlotType.{SlotType}
+use Rattle.oc_cells.specs.declared.types.SlotType.{SlotType}
 use Rattle.oc_tree.specs.declared.run.Source.{Source}
 use Rattle.oc_tree.specs.declared.run.Source.TheVariants.{Word}
-use Rattle.oc_tree.specs.declared.memory.Block.{Block}
+use Rattle.oc_cells.specs.declared.memory.Block.{Block}
 use Rattle.oc_tree.specs.declared.run.ShownItem.{ShownItem}
 use Rattle.oc_tree.specs.declared.run.Value.{Value}
 use Rattle.oc_tree.specs.declared.run.Value.TheVariants.{Int as VInt, Hidden as VHidden}

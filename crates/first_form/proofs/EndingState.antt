@@ -5,15 +5,15 @@ use Rattle.std.specs.Prelude.{IsTrue}
 use Rattle.std.proofs.lemmas.Bool.Decides.{nat_tests}
 use Rattle.oc_values.specs.declared.integers.IntKind.{IntKind}
 use Rattle.oc_values.specs.declared.integers.IntKind.TheVariants.{I32}
-use Rattle.oc_tree.specs.declared.types.CType.{Int}
-use Rattle.oc_tree.specs.declared.memory.Address.TheVariants.{At}
-use Rattle.oc_tree.specs.declared.memory.CellValue.{CellValue}
-use Rattle.oc_tree.specs.declared.memory.CellValue.TheVariants.{Int as CellInt, Hidden as CellHidden}
-use Rattle.oc_tree.specs.declared.memory.Block.{Block}
-use Rattle.oc_tree.specs.declared.memory.Block.TheVariants.{Live}
+use Rattle.oc_cells.specs.declared.types.CType.{Int}
+use Rattle.oc_cells.specs.declared.memory.Address.TheVariants.{At}
+use Rattle.oc_cells.specs.declared.memory.CellValue.{CellValue}
+use Rattle.oc_cells.specs.declared.memory.CellValue.TheVariants.{Int as CellInt, Hidden as CellHidden}
+use Rattle.oc_cells.specs.declared.memory.Block.{Block}
+use Rattle.oc_cells.specs.declared.memory.Block.TheVariants.{Live}
 use Rattle.oc_tree.specs.declared.run.ShownItem.{ShownItem}
 use Rattle.oc_tree.specs.declared.run.Named.{Named as Entered}
-use Rattle.oc_tree.specs.Memory.{living, make, joined, store, put, update, written, in_live}
+use Rattle.oc_cells.specs.Memory.{living, make, joined, store, put, update, written, in_live}
 use Rattle.oc_tree.specs.Walking.{State, block_of}
 use Rattle.first_form.specs.Items.{Named, same_bytes, mark_of, is_marked, is_known}
 use Rattle.first_form.specs.Trees.{slot_of}

@@ -6,23 +6,23 @@ use Rattle.std.specs.Fmt.{signed_decimal}
 use Rattle.std.proofs.lemmas.List.{length-map}
 use Rattle.oc_values.specs.declared.integers.IntKind.TheVariants.{I32}
 use Rattle.oc_values.specs.Integers.{convert}
-use Rattle.oc_tree.specs.declared.spot.Spot.{Spot}
-use Rattle.oc_tree.specs.declared.types.CType.{Int, Pointer, Nothing as NoType}
-use Rattle.oc_tree.specs.declared.types.SlotType.{SlotType}
+use Rattle.oc_source.specs.declared.spot.Spot.{Spot}
+use Rattle.oc_cells.specs.declared.types.CType.{Int, Pointer, Nothing as NoType}
+use Rattle.oc_cells.specs.declared.types.SlotType.{SlotType}
 use Rattle.oc_tree.specs.declared.typed.TExpr.{TExpr}
 use Rattle.oc_tree.specs.declared.typed.ExprNode.{AddressOf}
 use Rattle.oc_tree.specs.declared.run.Source.{Source}
 use Rattle.oc_tree.specs.declared.typed.Builtin.TheVariants.{Reveal, Print}
 use Rattle.oc_tree.specs.declared.typed.PrintPiece.TheVariants.{Text, Decimal}
-use Rattle.oc_tree.specs.declared.memory.Block.{Block}
-use Rattle.oc_tree.specs.declared.memory.Address.TheVariants.{At}
-use Rattle.oc_tree.specs.declared.memory.CellValue.TheVariants.{Int as CellInt, Hidden as CellHidden}
-use Rattle.oc_tree.specs.declared.outcome.TrapKind.{TrapKind}
+use Rattle.oc_cells.specs.declared.memory.Block.{Block}
+use Rattle.oc_cells.specs.declared.memory.Address.TheVariants.{At}
+use Rattle.oc_cells.specs.declared.memory.CellValue.TheVariants.{Int as CellInt, Hidden as CellHidden}
+use Rattle.oc_cells.specs.declared.trap.TrapKind.{TrapKind}
 use Rattle.oc_tree.specs.declared.run.ShownItem.{ShownItem}
 use Rattle.oc_tree.specs.declared.run.ShownItem.TheVariants.{Print as Printed, Reveal as Revealed}
 use Rattle.oc_tree.specs.declared.run.Value.TheVariants.{Hidden as VHidden, Pointer as VPointer, Nothing as VNothing}
 use Rattle.oc_tree.specs.declared.run.Flow.TheVariants.{Next}
-use Rattle.oc_tree.specs.Memory.{make, store}
+use Rattle.oc_cells.specs.Memory.{make, store}
 use Rattle.oc_tree.specs.Walking.{Mem, Res, Go, Act, bind, after, pure, still, stilled, answered, keeps, enter, block_of}
 use Rattle.oc_tree.specs.Values.{initializes}
 use Rattle.oc_tree.specs.Walk.{Around, whole, cost, opens, started, typed_slot, declares, stepped, performs, source_at}

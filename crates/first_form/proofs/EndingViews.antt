@@ -1,8 +1,8 @@
 -- What the walk does at each form of a tree.
 use Rattle.std.proofs.Common.{◌≡◌, List, [], ◌∷◌, refl}
 use Rattle.oc_values.specs.declared.integers.BinaryOp.{BinaryOp}
-use Rattle.oc_tree.specs.declared.spot.Spot.{Spot}
-use Rattle.oc_tree.specs.declared.types.CType.{CType}
+use Rattle.oc_source.specs.declared.spot.Spot.{Spot}
+use Rattle.oc_cells.specs.declared.types.CType.{CType}
 use Rattle.oc_tree.specs.declared.typed.TExpr.{TExpr}
 use Rattle.oc_tree.specs.declared.typed.Builtin.{Builtin}
 use Rattle.oc_tree.specs.declared.typed.Builtin.TheVariants.{Private}

@@ -3,13 +3,13 @@ use Rattle.std.proofs.Common.{◌≡◌, refl, sym, ap, subst, ◌∙◌, ℕ, c
 use Rattle.std.specs.Prelude.{IsTrue, MatchOption}
 use Rattle.std.proofs.lemmas.Bool.{eqb-true, eq-eqb}
 use Rattle.oc_values.specs.declared.integers.IntKind.TheVariants.{I32}
-use Rattle.oc_tree.specs.declared.spot.Spot.{Spot}
-use Rattle.oc_tree.specs.declared.literal.Literal.{Literal}
-use Rattle.oc_tree.specs.declared.parsed.Expr.{Expr}
-use Rattle.oc_tree.specs.declared.parsed.ExprNode.{ExprNode}
-use Rattle.oc_tree.specs.declared.parsed.ExprNode.TheVariants as e
-use Rattle.oc_tree.specs.declared.parsed.UnaryOp.TheVariants.{Address}
-use Rattle.oc_tree.specs.Parsed.{expr}
+use Rattle.oc_source.specs.declared.spot.Spot.{Spot}
+use Rattle.oc_source.specs.declared.literal.Literal.{Literal}
+use Rattle.oc_source.specs.declared.parsed.Expr.{Expr}
+use Rattle.oc_source.specs.declared.parsed.ExprNode.{ExprNode}
+use Rattle.oc_source.specs.declared.parsed.ExprNode.TheVariants as e
+use Rattle.oc_source.specs.declared.parsed.UnaryOp.TheVariants.{Address}
+use Rattle.oc_source.specs.Parsed.{expr}
 use Rattle.first_form.specs.declared.node.SourceName.{SourceName}
 use Rattle.first_form.specs.Items.{same_bytes}
 use Rattle.first_form.specs.Trees.{number, name_at, call, literal_1, literal_2, party_literal}

@@ -1,11 +1,11 @@
 -- What the reader has seen of an item, against the item's whole tree.
 use Rattle.std.proofs.Common.{◌≡◌, refl, sym, ap, ◌∙◌, ℕ, ◌∷◌, [], List, Option, Some, None}
 use Rattle.std.specs.Prelude.{MatchOption, codes}
-use Rattle.oc_tree.specs.declared.spot.Spot.{Spot}
-use Rattle.oc_tree.specs.declared.parsed.Expr.{Expr}
-use Rattle.oc_tree.specs.declared.parsed.ExprNode.TheVariants as e
-use Rattle.oc_tree.specs.declared.parsed.UnaryOp.TheVariants.{Address}
-use Rattle.oc_tree.specs.Parsed.{expr}
+use Rattle.oc_source.specs.declared.spot.Spot.{Spot}
+use Rattle.oc_source.specs.declared.parsed.Expr.{Expr}
+use Rattle.oc_source.specs.declared.parsed.ExprNode.TheVariants as e
+use Rattle.oc_source.specs.declared.parsed.UnaryOp.TheVariants.{Address}
+use Rattle.oc_source.specs.Parsed.{expr}
 use Rattle.first_form.specs.declared.node.SourceName.{SourceName}
 use Rattle.first_form.specs.Trees.{number, name_at, call, literal_0, party_literal, feed, revealing, printing}
 use Rattle.first_form.specs.Reading.{IsNumber, PartyRead, FeedRead, PrintRead, source_name}

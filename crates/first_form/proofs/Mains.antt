@@ -2,12 +2,12 @@
 use Rattle.std.proofs.Common.{◌≡◌, sym, ap, ◌∙◌, ℕ, ◌∷◌, [], List, Option, Some, None, Bool, true, false, length, get_or, arith}
 use Rattle.std.specs.Prelude.{MatchOption, codes}
 use Rattle.std.specs.Borrow.{Bor}
-use Rattle.oc_tree.specs.declared.spot.Spot.{Spot}
-use Rattle.oc_tree.specs.declared.parsed.TypeName.{TypeName}
-use Rattle.oc_tree.specs.declared.parsed.Param.{Param}
-use Rattle.oc_tree.specs.declared.parsed.Function.{Function}
-use Rattle.oc_tree.specs.declared.parsed.Program.{Program}
-use Rattle.oc_tree.specs.declared.parsed.Stmt.{Stmt as ParsedStmt}
+use Rattle.oc_source.specs.declared.spot.Spot.{Spot}
+use Rattle.oc_source.specs.declared.parsed.TypeName.{TypeName}
+use Rattle.oc_source.specs.declared.parsed.Param.{Param}
+use Rattle.oc_source.specs.declared.parsed.Function.{Function}
+use Rattle.oc_source.specs.declared.parsed.Program.{Program}
+use Rattle.oc_source.specs.declared.parsed.Stmt.{Stmt as ParsedStmt}
 use Rattle.first_form.specs.Items.{same_bytes}
 use Rattle.first_form.specs.Bodies.{IsMain}
 use Rattle.first_form.specs.Trees.{function_with}

@@ -4,12 +4,12 @@ use Rattle.std.specs.Prelude.{IsTrue}
 use Rattle.std.proofs.Math.Bool.{Bool-set}
 use Rattle.oc_values.specs.declared.integers.BinaryOp.{BinaryOp}
 use Rattle.oc_values.specs.declared.integers.IntKind.{IntKind}
-use Rattle.oc_tree.specs.declared.literal.Literal.{Literal}
-use Rattle.oc_tree.specs.Literals.{is_literal}
-use Rattle.oc_tree.specs.declared.parsed.UnaryOp.{UnaryOp}
-use Rattle.oc_tree.specs.declared.parsed.Expr.{Expr}
-use Rattle.oc_tree.specs.declared.parsed.ExprNode.{ExprNode, ExprNode-F, out-ExprNode, out-roll-ExprNode}
-use Rattle.oc_tree.specs.declared.parsed.ExprNode.TheVariants as e
+use Rattle.oc_source.specs.declared.literal.Literal.{Literal}
+use Rattle.oc_source.specs.Literals.{is_literal}
+use Rattle.oc_source.specs.declared.parsed.UnaryOp.{UnaryOp}
+use Rattle.oc_source.specs.declared.parsed.Expr.{Expr}
+use Rattle.oc_source.specs.declared.parsed.ExprNode.{ExprNode, ExprNode-F, out-ExprNode, out-roll-ExprNode}
+use Rattle.oc_source.specs.declared.parsed.ExprNode.TheVariants as e
 
 -- a node, opened once
 abbrev Layer : Type 0

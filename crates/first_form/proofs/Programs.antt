@@ -1,8 +1,8 @@
 -- The one function of a body of items.
 use Rattle.std.proofs.Common.{◌≡◌, sym, ap, subst, ◌∙◌, ◌∷◌, [], List, true, map}
-use Rattle.oc_tree.specs.declared.parsed.Program.{Program}
-use Rattle.oc_tree.specs.declared.parsed.Stmt.{Stmt as ParsedStmt}
-use Rattle.oc_tree.specs.declared.types.SlotType.{SlotType}
+use Rattle.oc_source.specs.declared.parsed.Program.{Program}
+use Rattle.oc_source.specs.declared.parsed.Stmt.{Stmt as ParsedStmt}
+use Rattle.oc_cells.specs.declared.types.SlotType.{SlotType}
 use Rattle.oc_tree.specs.declared.typed.Stmt.{Stmt}
 use Rattle.oc_tree.specs.declared.typed.TypedFunction.{TypedFunction}
 use Rattle.oc_tree.specs.declared.program.Typed.{Typed}

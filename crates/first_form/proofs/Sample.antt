@@ -3,20 +3,20 @@ use Rattle.std.proofs.Common.{refl, ℕ, ◌+◌, ◌∷◌, [], List, Some, Non
 use Rattle.std.specs.Prelude.{codes, IsTrue}
 use Rattle.oc_values.specs.declared.integers.BinaryOp.TheVariants.{Add, Sub}
 use Rattle.oc_values.specs.declared.integers.IntKind.TheVariants.{I32}
-use Rattle.oc_tree.specs.declared.spot.Spot.{Spot}
-use Rattle.oc_tree.specs.declared.literal.Literal.{Literal}
-use Rattle.oc_tree.specs.declared.parsed.Program.{Program}
-use Rattle.oc_tree.specs.declared.parsed.Expr.{Expr}
-use Rattle.oc_tree.specs.declared.parsed.ExprNode.TheVariants as e
-use Rattle.oc_tree.specs.declared.parsed.UnaryOp.TheVariants.{Address}
-use Rattle.oc_tree.specs.declared.parsed.Stmt.{Stmt}
-use Rattle.oc_tree.specs.declared.parsed.StmtNode.TheVariants as st
+use Rattle.oc_source.specs.declared.spot.Spot.{Spot}
+use Rattle.oc_source.specs.declared.literal.Literal.{Literal}
+use Rattle.oc_source.specs.declared.parsed.Program.{Program}
+use Rattle.oc_source.specs.declared.parsed.Expr.{Expr}
+use Rattle.oc_source.specs.declared.parsed.ExprNode.TheVariants as e
+use Rattle.oc_source.specs.declared.parsed.UnaryOp.TheVariants.{Address}
+use Rattle.oc_source.specs.declared.parsed.Stmt.{Stmt}
+use Rattle.oc_source.specs.declared.parsed.StmtNode.TheVariants as st
 use Rattle.oc_tree.specs.declared.typed.TypedFunction.{TypedFunction}
 use Rattle.oc_tree.specs.declared.program.Typed.{Typed}
 use Rattle.oc_tree.specs.declared.typed.ExprNode.TheBlock.{hidden-the_row-TExpr-0, hidden-the_row-TExpr-1}
-use Rattle.oc_tree.specs.declared.types.CType.TheBlock.{hidden-the_row-CType-0}
+use Rattle.oc_cells.specs.declared.types.CType.TheBlock.{hidden-the_row-CType-0}
 use denote.Hole.Carrier.{hidden}
-use Rattle.oc_tree.specs.Parsed.{expr, stmt, int_base, field, declared}
+use Rattle.oc_source.specs.Parsed.{expr, stmt, int_base, field, declared}
 use Rattle.oc_tree.specs.Typing.{is_typed}
 use Rattle.first_form.specs.Items.{Item, Feeds, Declares, Reveals, Prints}
 use Rattle.first_form.specs.Trees.{main_function, literal_0, literal_1, literal_2}

@@ -2,16 +2,16 @@
 use Rattle.std.proofs.Common.{◌≡◌, sym, ap, subst, ◌∙◌, ℕ, ◌<◌, ◌≤◌, ◌∷◌, [], List, Option, Some, None, Bool, true, false, length, get_or, arith}
 use Rattle.std.specs.Prelude.{MatchOption}
 use Rattle.oc_values.specs.declared.integers.IntKind.TheVariants.{I32}
-use Rattle.oc_tree.specs.declared.spot.Spot.{Spot}
-use Rattle.oc_tree.specs.declared.parsed.Expr.{Expr}
-use Rattle.oc_tree.specs.declared.parsed.BaseKind.{BaseKind}
-use Rattle.oc_tree.specs.declared.parsed.BaseKind.TheVariants as base
-use Rattle.oc_tree.specs.declared.parsed.FieldDef.{FieldDef}
-use Rattle.oc_tree.specs.declared.parsed.Declared.{Declared}
-use Rattle.oc_tree.specs.declared.parsed.Stmt.{Stmt as ParsedStmt}
-use Rattle.oc_tree.specs.declared.parsed.StmtNode.{StmtNode}
-use Rattle.oc_tree.specs.declared.parsed.StmtNode.TheVariants as st
-use Rattle.oc_tree.specs.Parsed.{stmt, int_base, field, declared}
+use Rattle.oc_source.specs.declared.spot.Spot.{Spot}
+use Rattle.oc_source.specs.declared.parsed.Expr.{Expr}
+use Rattle.oc_source.specs.declared.parsed.BaseKind.{BaseKind}
+use Rattle.oc_source.specs.declared.parsed.BaseKind.TheVariants as base
+use Rattle.oc_source.specs.declared.parsed.FieldDef.{FieldDef}
+use Rattle.oc_source.specs.declared.parsed.Declared.{Declared}
+use Rattle.oc_source.specs.declared.parsed.Stmt.{Stmt as ParsedStmt}
+use Rattle.oc_source.specs.declared.parsed.StmtNode.{StmtNode}
+use Rattle.oc_source.specs.declared.parsed.StmtNode.TheVariants as st
+use Rattle.oc_source.specs.Parsed.{stmt, int_base, field, declared}
 use Rattle.first_form.specs.declared.item.SourceItem.{SourceItem}
 use Rattle.first_form.specs.Items.{Feeds, Declares, Reveals, Prints}
 use Rattle.first_form.specs.Trees.{at, feed, revealing, printing}

@@ -3,12 +3,12 @@ use Rattle.std.proofs.Common.{◌≡◌, ◌+◌, ◌<◌, ◌≤◌, length, dr
 use Rattle.std.specs.List.{list_all}
 use Rattle.std.proofs.lemmas.Bool.{and_parts, and_from}
 use Rattle.oc_values.specs.declared.integers.BinaryOp.{BinaryOp}
-use Rattle.oc_tree.specs.declared.spot.Spot.{Spot}
-use Rattle.oc_tree.specs.declared.parsed.Expr.{Expr}
-use Rattle.oc_tree.specs.declared.parsed.ExprNode.TheVariants as e
+use Rattle.oc_source.specs.declared.spot.Spot.{Spot}
+use Rattle.oc_source.specs.declared.parsed.Expr.{Expr}
+use Rattle.oc_source.specs.declared.parsed.ExprNode.TheVariants as e
 use Rattle.oc_tree.specs.declared.typed.TExpr.{TExpr}
 use Rattle.oc_tree.specs.declared.typed.ExprNode.{Binary}
-use Rattle.oc_tree.specs.Parsed.{expr}
+use Rattle.oc_source.specs.Parsed.{expr}
 use Rattle.first_form.specs.declared.node.SourceName.{SourceName}
 use Rattle.first_form.specs.Items.{Named, Summand, is_known, is_summand, is_plus_or_minus}
 use Rattle.first_form.specs.Trees.{at, name_at, int_type, reading, slot_of, sum, summed}

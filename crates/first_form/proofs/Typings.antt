@@ -7,10 +7,10 @@ use Rattle.std.proofs.lemmas.List.{append-nil, length-append, length-map, map-ap
 use Rattle.oc_values.specs.declared.integers.IntKind.TheVariants.{I32}
 use Rattle.oc_values.specs.declared.integers.BinaryOp.{BinaryOp}
 use Rattle.oc_values.specs.declared.integers.BinaryOp.TheVariants.{Add, Sub}
-use Rattle.oc_tree.specs.declared.spot.Spot.{Spot}
-use Rattle.oc_tree.specs.declared.types.CType.{Pointer, Nothing}
-use Rattle.oc_tree.specs.declared.types.CType.TheBlock.{hidden-the_row-CType-0}
-use Rattle.oc_tree.specs.declared.types.SlotType.{SlotType}
+use Rattle.oc_source.specs.declared.spot.Spot.{Spot}
+use Rattle.oc_cells.specs.declared.types.CType.{Pointer, Nothing}
+use Rattle.oc_cells.specs.declared.types.CType.TheBlock.{hidden-the_row-CType-0}
+use Rattle.oc_cells.specs.declared.types.SlotType.{SlotType}
 use Rattle.oc_tree.specs.declared.typed.TExpr.{TExpr}
 use Rattle.oc_tree.specs.declared.typed.ExprNode.{ExprNode, AddressOf, Binary, Builtin}
 use Rattle.oc_tree.specs.declared.typed.ExprNode.TheBlock.{hidden-the_row-TExpr-0, hidden-the_row-TExpr-1}
@@ -18,7 +18,7 @@ use Rattle.oc_tree.specs.declared.typed.Builtin.TheVariants.{Reveal, Print}
 use Rattle.oc_tree.specs.declared.typed.PrintPiece.TheVariants.{Text, Decimal}
 use denote.Hole.Carrier.{hidden}
 use Rattle.oc_tree.specs.Typing.{typed_expr, typed_start, typed_node, names_of, typed_body, is_typed, is_party, is_of_slot, is_sum}
-use Rattle.oc_tree.specs.Types.{same, alike}
+use Rattle.oc_cells.specs.Types.{same, alike}
 use Rattle.first_form.specs.Items.{Item, Feeds, Declares, Reveals, Prints, Summand, Named, same_bytes, mark_of, is_marked, is_known, is_new, is_plus_or_minus, is_summand, is_item, are_items, declared_by}
 use Rattle.first_form.specs.Trees.{slot_of, int_type, variable, reading, summed, fed, statement, statements, slot_type, all_declared, main_function, at, first_of}
 

@@ -4,17 +4,17 @@ use Rattle.std.specs.Prelude.{codes, ◌&&◌}
 use Rattle.std.specs.List.{list_all}
 use Rattle.std.proofs.lemmas.Bool.{and_parts, and_from, le-leb, leb-true}
 use Rattle.oc_values.specs.declared.integers.IntKind.TheVariants.{I32}
-use Rattle.oc_tree.specs.declared.spot.Spot.{Spot}
-use Rattle.oc_tree.specs.declared.parsed.Expr.{Expr}
-use Rattle.oc_tree.specs.declared.parsed.Stmt.{Stmt as ParsedStmt}
-use Rattle.oc_tree.specs.declared.parsed.StmtNode.{StmtNode, Declare}
-use Rattle.oc_tree.specs.declared.parsed.StmtNode.TheVariants as st
+use Rattle.oc_source.specs.declared.spot.Spot.{Spot}
+use Rattle.oc_source.specs.declared.parsed.Expr.{Expr}
+use Rattle.oc_source.specs.declared.parsed.Stmt.{Stmt as ParsedStmt}
+use Rattle.oc_source.specs.declared.parsed.StmtNode.{StmtNode, Declare}
+use Rattle.oc_source.specs.declared.parsed.StmtNode.TheVariants as st
 use Rattle.oc_tree.specs.declared.typed.TExpr.{TExpr}
 use Rattle.oc_tree.specs.declared.typed.ExprNode.{Builtin}
 use Rattle.oc_tree.specs.declared.typed.Builtin.TheVariants.{Reveal, Print}
 use Rattle.oc_tree.specs.declared.typed.PrintPiece.TheVariants.{Text, Decimal}
 use Rattle.oc_tree.specs.declared.typed.Stmt.{Stmt}
-use Rattle.oc_tree.specs.Parsed.{stmt}
+use Rattle.oc_source.specs.Parsed.{stmt}
 use Rattle.first_form.specs.declared.item.SourceItem.{SourceItem}
 use Rattle.first_form.specs.declared.item.SourceItem.TheVariants as source
 use Rattle.first_form.specs.declared.item.SourceReveal.{SourceReveal}

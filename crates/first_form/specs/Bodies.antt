@@ -1,9 +1,9 @@
 -- What the reader finds in statements after names, in a body and in a program.
 use Rattle.std.specs.Prelude.{◌≡◌, ◌≤◌, List, [], ◌∷◌, ◌++◌, length, map, true}
-use Rattle.oc_tree.specs.declared.spot.Spot.{Spot}
-use Rattle.oc_tree.specs.declared.parsed.Stmt.{Stmt as ParsedStmt}
-use Rattle.oc_tree.specs.declared.parsed.Program.{Program}
-use Rattle.oc_tree.specs.declared.types.SlotType.{SlotType}
+use Rattle.oc_source.specs.declared.spot.Spot.{Spot}
+use Rattle.oc_source.specs.declared.parsed.Stmt.{Stmt as ParsedStmt}
+use Rattle.oc_source.specs.declared.parsed.Program.{Program}
+use Rattle.oc_cells.specs.declared.types.SlotType.{SlotType}
 use Rattle.oc_tree.specs.declared.typed.Stmt.{Stmt}
 use Rattle.first_form.specs.Items.{Item, Named, is_item, are_items, declared_by}
 use Rattle.first_form.specs.Trees.{parsed, parsed_items, statement, statements, slot_type, all_declared, function_with}

@@ -10,7 +10,7 @@ use Rattle.oc_tree.specs.declared.run.ShownItem.TheVariants.{Print, Reveal}
 use Rattle.oc_tree.specs.declared.run.ClearSetup.{ClearSetup}
 use Rattle.oc_tree.specs.declared.outcome.Outcome.{Outcome}
 use Rattle.oc_tree.specs.declared.outcome.Outcome.TheVariants.{Done}
-use Rattle.oc_tree.specs.declared.parsed.Program.{Program}
+use Rattle.oc_source.specs.declared.parsed.Program.{Program}
 use Rattle.oc_tree.specs.declared.program.Typed.{Typed}
 use Rattle.oc_tree.specs.Clear.{Clear}
 use Rattle.first_form.specs.Items.{Item, Feeds, Declares, Reveals, Prints, Summand, same_bytes}

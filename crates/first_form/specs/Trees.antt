@@ -1,16 +1,16 @@
 -- The parsed tree and the typed tree of items, given the spots of their nodes.
 use Rattle.std.specs.Prelude.{ℕ, zero, suc, ◌+◌, pos, List, [], ◌∷◌, ◌++◌, length, drop, map, Option, Some, None, true, false, Bool, codes, nat_eq, refl, if◌then◌else◌}
 use Rattle.oc_values.specs.declared.integers.IntKind.TheVariants.{I32, I64}
-use Rattle.oc_tree.specs.declared.spot.Spot.{Spot}
-use Rattle.oc_tree.specs.declared.literal.Literal.{Literal}
-use Rattle.oc_tree.specs.declared.parsed.Expr.{Expr}
-use Rattle.oc_tree.specs.declared.parsed.ExprNode.TheVariants as e
-use Rattle.oc_tree.specs.declared.parsed.UnaryOp.TheVariants.{Address}
-use Rattle.oc_tree.specs.declared.parsed.Stmt.{Stmt as ParsedStmt}
-use Rattle.oc_tree.specs.declared.parsed.StmtNode.TheVariants as st
-use Rattle.oc_tree.specs.declared.parsed.Function.{Function}
-use Rattle.oc_tree.specs.declared.types.CType.{CType, Int, Pointer, Nothing}
-use Rattle.oc_tree.specs.declared.types.SlotType.{SlotType}
+use Rattle.oc_source.specs.declared.spot.Spot.{Spot}
+use Rattle.oc_source.specs.declared.literal.Literal.{Literal}
+use Rattle.oc_source.specs.declared.parsed.Expr.{Expr}
+use Rattle.oc_source.specs.declared.parsed.ExprNode.TheVariants as e
+use Rattle.oc_source.specs.declared.parsed.UnaryOp.TheVariants.{Address}
+use Rattle.oc_source.specs.declared.parsed.Stmt.{Stmt as ParsedStmt}
+use Rattle.oc_source.specs.declared.parsed.StmtNode.TheVariants as st
+use Rattle.oc_source.specs.declared.parsed.Function.{Function}
+use Rattle.oc_cells.specs.declared.types.CType.{CType, Int, Pointer, Nothing}
+use Rattle.oc_cells.specs.declared.types.SlotType.{SlotType}
 use Rattle.oc_tree.specs.declared.typed.TExpr.{TExpr}
 use Rattle.oc_tree.specs.declared.typed.TPlace.{TPlace}
 use Rattle.oc_tree.specs.declared.typed.ExprNode.{ExprNode, Number, Read, AddressOf, Binary, Builtin}
@@ -20,7 +20,7 @@ use Rattle.oc_tree.specs.declared.typed.PrintPiece.TheVariants.{Text, Decimal}
 use Rattle.oc_tree.specs.declared.typed.Stmt.{Stmt}
 use Rattle.oc_tree.specs.declared.typed.StmtNode.TheVariants.{Declare, Express}
 use Rattle.oc_tree.specs.declared.typed.TypedFunction.{TypedFunction}
-use Rattle.oc_tree.specs.Parsed.{expr, stmt, int_base, field, declared}
+use Rattle.oc_source.specs.Parsed.{expr, stmt, int_base, field, declared}
 use Rattle.first_form.specs.Items.{Item, Feeds, Declares, Reveals, Prints, Summand, Named, same_bytes, declared_by}
 
 -- the spot at a place

@@ -1,18 +1,19 @@
 //! Items of a program, each read from its statement.
 
 ghost use Rattle.std.specs.Prelude.{◌≡◌, ℕ, List, [], ◌∷◌, Bool, true, false, MatchOption, IsTrue, ◌↔◌};
-ghost use Rattle.oc_tree.specs.declared.spot.Spot.{Spot};
-ghost use Rattle.oc_tree.specs.declared.parsed.Expr.{Expr};
-ghost use Rattle.oc_tree.specs.declared.parsed.StmtNode.TheVariants.{Declare, Express};
-ghost use Rattle.oc_tree.specs.Parsed.{int_base, field as field_at, stmt as stmt_at};
+ghost use Rattle.oc_source.specs.declared.spot.Spot.{Spot};
+ghost use Rattle.oc_source.specs.declared.parsed.Expr.{Expr};
+ghost use Rattle.oc_source.specs.declared.parsed.StmtNode.TheVariants.{Declare, Express};
+ghost use Rattle.oc_source.specs.Parsed.{int_base, field as field_at, stmt as stmt_at};
 ghost use Rattle.first_form.specs.Trees.{number, party_literal, feed as feed_at, revealing, printing};
 ghost use Rattle.first_form.specs.Reading.{PartyRead, FeedRead, FieldRead, RevealRead, PrintRead, ItemRead, NoItem};
 
 use crate::node::{
     SourceName, addressed, is_number, is_text, named, one_argument, three_arguments, two_arguments,
 };
-use oc_tree::parsed::{BaseKind, Declared, Expr, FieldDef, Stmt, StmtNode};
-use oc_tree::{IntKind, Spot};
+use oc_source::parsed::{BaseKind, Declared, Expr, FieldDef, Stmt, StmtNode};
+use oc_source::Spot;
+use oc_values::IntKind;
 
 /// What a print writes: a number and the end of its line.
 const FORMAT: &[u8] = b"%d\n";

@@ -1,17 +1,18 @@
 //! Nodes of the parsed tree, each looked at for one form.
 
 ghost use Rattle.std.specs.Prelude.{◌≡◌, ℕ, List, [], ◌∷◌, ◌↔◌, MatchOption, IsTrue};
-ghost use Rattle.oc_tree.specs.declared.spot.Spot.{Spot};
-ghost use Rattle.oc_tree.specs.declared.parsed.Expr.{Expr};
-ghost use Rattle.oc_tree.specs.declared.parsed.ExprNode.TheVariants.{Text, Unary};
-ghost use Rattle.oc_tree.specs.declared.parsed.UnaryOp.TheVariants.{Address};
-ghost use Rattle.oc_tree.specs.Parsed.{expr as node_at};
+ghost use Rattle.oc_source.specs.declared.spot.Spot.{Spot};
+ghost use Rattle.oc_source.specs.declared.parsed.Expr.{Expr};
+ghost use Rattle.oc_source.specs.declared.parsed.ExprNode.TheVariants.{Text, Unary};
+ghost use Rattle.oc_source.specs.declared.parsed.UnaryOp.TheVariants.{Address};
+ghost use Rattle.oc_source.specs.Parsed.{expr as node_at};
 ghost use Rattle.first_form.specs.Trees.{name_at, call};
 ghost use Rattle.first_form.specs.Reading.{IsNumber, source_name};
 
 use crate::name::same;
-use oc_tree::parsed::{Expr, ExprNode, UnaryOp};
-use oc_tree::{IntKind, Spot};
+use oc_source::parsed::{Expr, ExprNode, UnaryOp};
+use oc_source::Spot;
+use oc_values::IntKind;
 
 /// A name that a node holds, with its spot.
 #[derive(Clone, Copy, Debug)]

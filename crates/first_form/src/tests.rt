@@ -1,9 +1,10 @@
 use super::*;
-use oc_tree::parsed::{
+use oc_source::parsed::{
     BaseKind, BaseName, Declared, Expr, ExprNode, FieldDef, Function, Param, ParamArray, Program,
     Stmt, StmtNode, StructDef, TypeName, UnaryOp,
 };
-use oc_tree::{IntKind, Literal, Spot};
+use oc_source::{Literal, Spot};
+use oc_values::IntKind;
 use oc_values::{BinaryOp, Boxed, Items, Name, NoMemory};
 use std::alloc::Global;
 use std::test::*;

@@ -1,23 +1,23 @@
 //! Typed trees of items.
 
 ghost use Rattle.std.specs.Prelude.{◌≡◌, true, false, [], ◌∷◌, map, length, Some, None, IfOk, MatchOption, pos};
-ghost use Rattle.oc_tree.specs.declared.types.CType.{Pointer};
+ghost use Rattle.oc_cells.specs.declared.types.CType.{Pointer};
 ghost use Rattle.oc_tree.specs.declared.typed.TExpr.{TExpr};
 ghost use Rattle.oc_tree.specs.declared.typed.Stmt.{Stmt};
 ghost use Rattle.oc_tree.specs.declared.typed.ExprNode.{AddressOf, Binary};
 ghost use Rattle.first_form.specs.Trees.{slot_of, int_type, variable, reading, fed, pointing, declaring, calling, slot_type};
-ghost use Rattle.oc_tree.specs.declared.parsed.Expr.{Expr};
+ghost use Rattle.oc_source.specs.declared.parsed.Expr.{Expr};
 ghost use Rattle.first_form.specs.Items.{is_plus_or_minus};
 ghost use Rattle.first_form.specs.Scope.{named as declared_name, Reads, HiddenRead, Sums, Builds};
 
 use crate::item::{SourceFeed, SourceItem, SourceReveal};
 use crate::node::{SourceName, named};
 use crate::scope::{DeclaredName, is_known, is_new, slot_of};
-use oc_tree::parsed::Expr;
-use oc_tree::{
-    Builtin, CType, Declared, ExprNode, PlaceNode, PrintPiece, SlotType, Spot, Stmt, StmtNode,
-    TExpr, TPlace, parsed,
-};
+use oc_source::parsed::Expr;
+use oc_cells::{CType, SlotType};
+use oc_source::Spot;
+use oc_source::parsed;
+use oc_tree::{Builtin, Declared, ExprNode, PlaceNode, PrintPiece, Stmt, StmtNode, TExpr, TPlace};
 use oc_values::{BinaryOp, Boxed, IntKind, Items, Name, NoMemory};
 use std::alloc::Global;
 

@@ -3,7 +3,7 @@
 #![tactic(auto)]
 
 use block_memory::{Address, Blocks, CType, CellValue};
-use oc_tree::{IntKind, Items, NoMemory};
+use oc_values::{IntKind, Items, NoMemory};
 use std::alloc::Global;
 use std::env;
 use std::process::ExitCode;

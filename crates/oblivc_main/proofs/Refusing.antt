@@ -1,7 +1,7 @@
 -- A source that breaks a rule breaks no other and has no typed tree, and one that has a typed tree breaks none.
 use Rattle.std.proofs.Common.{ℕ, ◌≡◌, List, sym, ap, ◌∙◌, subst, refl}
-use Rattle.oc_tree.specs.declared.spot.Spot.{Spot}
-use Rattle.oc_tree.specs.declared.parsed.Program.{Program}
+use Rattle.oc_source.specs.declared.spot.Spot.{Spot}
+use Rattle.oc_source.specs.declared.parsed.Program.{Program}
 use Rattle.oc_tree.specs.declared.program.Typed.{Typed}
 use Rattle.oc_lexer.specs.declared.token.Token.{Token}
 use Rattle.oc_lexer.specs.declared.token.Lexed.{Lexed}

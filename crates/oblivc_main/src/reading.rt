@@ -11,7 +11,8 @@ use first_form::read_first;
 use oc_lexer::{LexFault, lex};
 use oc_outside::{FileAnswer, Vault};
 use oc_parser::{ParseFault, parse};
-use oc_tree::{Spot, Typed};
+use oc_source::Spot;
+use oc_tree::Typed;
 use std::alloc::Global;
 
 /// How many bytes of a source are read: one more than it may have.

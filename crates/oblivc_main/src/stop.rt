@@ -2,7 +2,7 @@
 
 use oc_lexer::LexRule;
 use oc_parser::ParseRule;
-use oc_tree::Spot;
+use oc_source::Spot;
 
 /// A rule that a source breaks.
 #[derive(Clone, Copy, Debug, PartialEq, Eq)]

@@ -2,8 +2,8 @@
 use Rattle.std.proofs.Common.{◌≡◌, ℕ, List, [], ◌∷◌, Bool, true, false, refl, ap, append-nil}
 use Rattle.oc_values.specs.declared.integers.IntKind.{IntKind}
 use Rattle.oc_values.specs.declared.integers.IntKind.TheVariants as kind
-use Rattle.oc_tree.specs.declared.spot.Spot.{Spot}
-use Rattle.oc_tree.specs.declared.parsed.BaseName.{BaseName}
+use Rattle.oc_source.specs.declared.spot.Spot.{Spot}
+use Rattle.oc_source.specs.declared.parsed.BaseName.{BaseName}
 use Rattle.oc_lexer.specs.declared.token.Token.{Token}
 use Rattle.oc_lexer.specs.declared.token.TokenKind.{TokenKind}
 use Rattle.oc_lexer.specs.declared.token.TokenKind.TheVariants.{Name, Keyword}
@@ -13,7 +13,7 @@ use Rattle.oc_grammar.specs.declared.tables.Opening.{Opening}
 use Rattle.oc_grammar.specs.declared.tables.Opening.TheVariants as o
 use Rattle.oc_grammar.specs.Tokens.{Is, spot_at}
 use Rattle.oc_grammar.specs.Tables.{opening}
-use Rattle.oc_tree.specs.Parsed.{int_base}
+use Rattle.oc_source.specs.Parsed.{int_base}
 use Rattle.oc_grammar.specs.Trees.{struct_base}
 use Rattle.oc_grammar.specs.Reading.{Found, Refused, Leaves, Any, End, ended, Then, then, By, first}
 use Rattle.oc_grammar.specs.Calls.{ANamed, a_named}

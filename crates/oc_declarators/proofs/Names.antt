@@ -1,16 +1,16 @@
 -- Names with their stars and lengths.
 use Rattle.std.proofs.Common.{◌≡◌, ℕ, ◌+◌, List, [], ◌∷◌, ◌++◌, refl, sym, ◌∙◌, ap, append-nil, append_assoc, subst, arith}
 use Rattle.oc_values.specs.declared.integers.IntKind.TheVariants as kind
-use Rattle.oc_tree.specs.declared.literal.Literal.{Literal}
-use Rattle.oc_tree.specs.declared.parsed.BaseName.{BaseName}
-use Rattle.oc_tree.specs.declared.parsed.FieldDef.{FieldDef}
-use Rattle.oc_tree.specs.declared.parsed.TypeName.{TypeName}
+use Rattle.oc_source.specs.declared.literal.Literal.{Literal}
+use Rattle.oc_source.specs.declared.parsed.BaseName.{BaseName}
+use Rattle.oc_source.specs.declared.parsed.FieldDef.{FieldDef}
+use Rattle.oc_source.specs.declared.parsed.TypeName.{TypeName}
 use Rattle.oc_lexer.specs.declared.token.Token.{Token}
 use Rattle.oc_lexer.specs.declared.token.TokenKind.TheVariants.{Name, Number, Sign}
 use Rattle.oc_lexer.specs.declared.token.Sign.TheVariants as s
 use Rattle.oc_grammar.specs.declared.taking.Named.{Named}
 use Rattle.oc_grammar.specs.Tokens.{Is, Starts, NotNext}
-use Rattle.oc_tree.specs.Parsed.{field}
+use Rattle.oc_source.specs.Parsed.{field}
 use Rattle.oc_grammar.specs.Trees.{type_name}
 use Rattle.oc_grammar.specs.Reading.{SameNext, Found, Refused, Leaves, Any, End, ended, Then, then, Loop, at_last, turn}
 use Rattle.oc_grammar.specs.Calls.{One, one, ANamed, a_named}

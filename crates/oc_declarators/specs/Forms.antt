@@ -2,10 +2,10 @@
 use Rattle.std.specs.Prelude.{ℕ, List, [], ◌∷◌, Bool, true, false}
 use Rattle.oc_values.specs.declared.integers.IntKind.{IntKind}
 use Rattle.oc_values.specs.declared.integers.IntKind.TheVariants as kind
-use Rattle.oc_tree.specs.declared.spot.Spot.{Spot}
-use Rattle.oc_tree.specs.declared.literal.Literal.{Literal}
-use Rattle.oc_tree.specs.declared.parsed.BaseName.{BaseName}
-use Rattle.oc_tree.specs.declared.parsed.TypeName.{TypeName}
+use Rattle.oc_source.specs.declared.spot.Spot.{Spot}
+use Rattle.oc_source.specs.declared.literal.Literal.{Literal}
+use Rattle.oc_source.specs.declared.parsed.BaseName.{BaseName}
+use Rattle.oc_source.specs.declared.parsed.TypeName.{TypeName}
 use Rattle.oc_lexer.specs.declared.token.Token.{Token}
 use Rattle.oc_lexer.specs.declared.token.TokenKind.TheVariants.{Number, Keyword, Sign}
 use Rattle.oc_lexer.specs.declared.token.Keyword.{Keyword as Word}
@@ -17,7 +17,7 @@ use Rattle.oc_grammar.specs.declared.tables.Opening.{Opening}
 use Rattle.oc_grammar.specs.declared.tables.Opening.TheVariants as o
 use Rattle.oc_grammar.specs.Tokens.{Is, NotNext}
 use Rattle.oc_grammar.specs.Tables.{kind_of, opening}
-use Rattle.oc_tree.specs.Parsed.{int_base}
+use Rattle.oc_source.specs.Parsed.{int_base}
 use Rattle.oc_grammar.specs.Trees.{struct_base}
 use Rattle.oc_grammar.specs.Reading.{End, Then, By, Maybe}
 use Rattle.oc_grammar.specs.Calls.{One, ANamed}

@@ -1,7 +1,7 @@
 //! What a written type begins with.
 
 ghost use Rattle.std.specs.Prelude.{◌≡◌, ◌<◌, List, length, MatchOption, IfOk};
-ghost use Rattle.oc_tree.specs.declared.parsed.BaseName.{BaseName};
+ghost use Rattle.oc_source.specs.declared.parsed.BaseName.{BaseName};
 ghost use Rattle.oc_lexer.specs.declared.token.Token.{Token};
 ghost use Rattle.oc_grammar.specs.Reading.{Found, By};
 ghost use Rattle.oc_grammar.specs.Calls.{Reads};
@@ -14,8 +14,8 @@ use oc_grammar::ParseError;
 use oc_grammar::tables::{Opening, opening_of};
 use oc_grammar::taking::{name, next};
 use oc_lexer::Token;
-use oc_tree::Spot;
-use oc_tree::parsed::{BaseKind, BaseName};
+use oc_source::Spot;
+use oc_source::parsed::{BaseKind, BaseName};
 use std::alloc::Global;
 
 // Passes the words after the first one of an integer type with marks; `None` where none begins with it.

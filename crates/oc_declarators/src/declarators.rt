@@ -10,7 +10,7 @@ use crate::bases::base;
 use oc_grammar::ParseError;
 use oc_grammar::taking::{eat, expect, name, next};
 use oc_lexer::{Sign, Token, TokenKind};
-use oc_tree::parsed::{BaseKind, BaseName, FieldDef, TypeName};
+use oc_source::parsed::{BaseKind, BaseName, FieldDef, TypeName};
 use oc_values::{Items, Name, NoMemory};
 use std::alloc::Global;
 

@@ -12,7 +12,7 @@ use oc_grammar::ParseError;
 use oc_grammar::tables::{Opening, Width, int_kind, opening_of};
 use oc_grammar::taking::{eat_word, next};
 use oc_lexer::{Keyword, Token};
-use oc_tree::IntKind;
+use oc_values::IntKind;
 
 /// Passes a keyword that may be left out.
 pub fn optional(tokens: &[Token], word: Keyword) -> &[Token]

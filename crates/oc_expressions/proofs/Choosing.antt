@@ -1,16 +1,16 @@
 -- Choices and assignments.
 use Rattle.std.proofs.Common.{◌≡◌, ◌≤◌, List, [], ◌∷◌, ◌++◌, Option, arith, subst, append-nil}
 use Rattle.oc_values.specs.declared.integers.BinaryOp.{BinaryOp}
-use Rattle.oc_tree.specs.declared.spot.Spot.{Spot}
-use Rattle.oc_tree.specs.declared.parsed.Expr.{Expr}
-use Rattle.oc_tree.specs.declared.parsed.ExprNode.TheVariants as e
+use Rattle.oc_source.specs.declared.spot.Spot.{Spot}
+use Rattle.oc_source.specs.declared.parsed.Expr.{Expr}
+use Rattle.oc_source.specs.declared.parsed.ExprNode.TheVariants as e
 use Rattle.oc_lexer.specs.declared.token.Token.{Token}
 use Rattle.oc_lexer.specs.declared.token.TokenKind.TheVariants.{Sign}
 use Rattle.oc_lexer.specs.declared.token.Sign.{Sign as SignType}
 use Rattle.oc_lexer.specs.declared.token.Sign.TheVariants as s
 use Rattle.oc_grammar.specs.Tokens.{Starts, NotNext, SignStarts, NoSign, spot_at}
 use Rattle.oc_grammar.specs.Tables.{assignment, strength}
-use Rattle.oc_tree.specs.Parsed.{expr}
+use Rattle.oc_source.specs.Parsed.{expr}
 use Rattle.oc_grammar.specs.Reading.{SameNext, Found, Refused, Leaves, Any, End, ended, Then, then, Maybe, stays, goes}
 use Rattle.oc_grammar.specs.Calls.{One, one, Placed, placed}
 use Rattle.oc_grammar.specs.Expressions.{Expression, Before, before, assign, choose, operation, at, Stops, Ends}

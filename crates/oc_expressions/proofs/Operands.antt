@@ -1,16 +1,16 @@
 -- Operands, with what stands before and after them.
 use Rattle.std.proofs.Common.{◌≡◌, ℕ, ◌≤◌, List, [], ◌∷◌, ◌++◌, Some, refl, ◌∙◌, arith, Bool, true, false, subst, append-nil, append_assoc}
-use Rattle.oc_tree.specs.declared.spot.Spot.{Spot}
-use Rattle.oc_tree.specs.declared.parsed.Expr.{Expr}
-use Rattle.oc_tree.specs.declared.parsed.ExprNode.{ExprNode}
-use Rattle.oc_tree.specs.declared.parsed.ExprNode.TheVariants as e
+use Rattle.oc_source.specs.declared.spot.Spot.{Spot}
+use Rattle.oc_source.specs.declared.parsed.Expr.{Expr}
+use Rattle.oc_source.specs.declared.parsed.ExprNode.{ExprNode}
+use Rattle.oc_source.specs.declared.parsed.ExprNode.TheVariants as e
 use Rattle.oc_lexer.specs.declared.token.Token.{Token}
 use Rattle.oc_lexer.specs.declared.token.TokenKind.TheVariants.{Sign}
 use Rattle.oc_lexer.specs.declared.token.Sign.{Sign as SignType}
 use Rattle.oc_lexer.specs.declared.token.Sign.TheVariants as s
 use Rattle.oc_grammar.specs.Tokens.{Is, spot_at}
 use Rattle.oc_grammar.specs.Tables.{bump}
-use Rattle.oc_tree.specs.Parsed.{expr}
+use Rattle.oc_source.specs.Parsed.{expr}
 use Rattle.oc_grammar.specs.Trees.{prefixed, Leaf}
 use Rattle.oc_grammar.specs.Reading.{ended, Then, then, first, stays, goes, at_last, turn}
 use Rattle.oc_grammar.specs.Calls.{one, a_named, Placed, placed}

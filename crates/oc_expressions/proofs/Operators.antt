@@ -1,14 +1,14 @@
 -- Operators between two operands.
 use Rattle.std.proofs.Common.{◌≡◌, ℕ, ◌+◌, ◌≤◌, ◌<◌, List, [], ◌∷◌, ◌++◌, Some, refl, ◌∙◌, ap, arith, subst, append-nil, append_assoc}
-use Rattle.oc_tree.specs.declared.spot.Spot.{Spot}
-use Rattle.oc_tree.specs.declared.parsed.Expr.{Expr}
+use Rattle.oc_source.specs.declared.spot.Spot.{Spot}
+use Rattle.oc_source.specs.declared.parsed.Expr.{Expr}
 use Rattle.oc_lexer.specs.declared.token.Token.{Token}
 use Rattle.oc_lexer.specs.declared.token.TokenKind.TheVariants.{Sign}
 use Rattle.oc_lexer.specs.declared.token.Sign.{Sign as SignType}
 use Rattle.oc_grammar.specs.declared.tables.Infix.{Infix}
 use Rattle.oc_grammar.specs.Tokens.{Is, spot_at}
 use Rattle.oc_grammar.specs.Tables.{operator}
-use Rattle.oc_tree.specs.Parsed.{expr}
+use Rattle.oc_source.specs.Parsed.{expr}
 use Rattle.oc_grammar.specs.Trees.{infixed}
 use Rattle.oc_grammar.specs.Reading.{SameNext, Found, Refused, Leaves, Then, then, Maybe, stays, goes}
 use Rattle.oc_grammar.specs.Calls.{Placed, placed}

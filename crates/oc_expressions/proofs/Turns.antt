@@ -1,10 +1,10 @@
 -- The steps of the calls that read operands.
 use Rattle.std.proofs.Common.{◌≡◌, ℕ, List, [], ◌∷◌, ◌++◌, Option, Some, None, refl, sym, ◌∙◌, ap, arith, Bool, true, false, subst, append_assoc}
-use Rattle.oc_tree.specs.declared.spot.Spot.{Spot}
-use Rattle.oc_tree.specs.declared.parsed.TypeName.{TypeName}
-use Rattle.oc_tree.specs.declared.parsed.Expr.{Expr}
-use Rattle.oc_tree.specs.declared.parsed.ExprNode.{ExprNode}
-use Rattle.oc_tree.specs.declared.parsed.ExprNode.TheVariants as e
+use Rattle.oc_source.specs.declared.spot.Spot.{Spot}
+use Rattle.oc_source.specs.declared.parsed.TypeName.{TypeName}
+use Rattle.oc_source.specs.declared.parsed.Expr.{Expr}
+use Rattle.oc_source.specs.declared.parsed.ExprNode.{ExprNode}
+use Rattle.oc_source.specs.declared.parsed.ExprNode.TheVariants as e
 use Rattle.oc_lexer.specs.declared.token.Token.{Token}
 use Rattle.oc_lexer.specs.declared.token.TokenKind.{TokenKind}
 use Rattle.oc_lexer.specs.declared.token.TokenKind.TheVariants.{Name, Keyword, Sign}
@@ -16,7 +16,7 @@ use Rattle.oc_grammar.specs.declared.taking.Named.{Named}
 use Rattle.oc_grammar.specs.declared.tables.Opening.TheVariants as o
 use Rattle.oc_grammar.specs.Tokens.{Is, Starts, NotNext, SignStarts, NoSign, spot_at}
 use Rattle.oc_grammar.specs.Tables.{prefix, opening}
-use Rattle.oc_tree.specs.Parsed.{expr}
+use Rattle.oc_source.specs.Parsed.{expr}
 use Rattle.oc_grammar.specs.Trees.{prefixed, Leaf, number, character, text, null, truth, falsity}
 use Rattle.oc_grammar.specs.Reading.{SameNext, Found, Refused, Leaves, Any, End, ended, Then, then, By, first, at_last, turn}
 use Rattle.oc_grammar.specs.Calls.{One, one, ANamed, Placed, placed}
@@ -29,9 +29,9 @@ use Rattle.oc_expressions.specs.declared.signs.Postfix.{Postfix}
 use Rattle.oc_expressions.specs.declared.signs.Postfix.TheVariants as p
 use Rattle.std.proofs.Math.Bool.{Bool-set}
 use Rattle.oc_values.specs.declared.integers.IntKind.{IntKind}
-use Rattle.oc_tree.specs.declared.literal.Literal.{Literal}
-use Rattle.oc_tree.specs.Literals.{is_literal}
-use Rattle.oc_tree.specs.declared.parsed.BaseName.{BaseName}
+use Rattle.oc_source.specs.declared.literal.Literal.{Literal}
+use Rattle.oc_source.specs.Literals.{is_literal}
+use Rattle.oc_source.specs.declared.parsed.BaseName.{BaseName}
 use Rattle.oc_grammar.specs.WrittenTypes.{Base, type_named, last as last_one, more as one_more}
 use Rattle.oc_grammar.proofs.Lists.{CommaEnds}
 use Rattle.oc_declarators.specs.Forms.{base_after}

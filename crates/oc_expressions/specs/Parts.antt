@@ -1,10 +1,10 @@
 -- Parts: what is left of an expression after its first tokens.
 use Rattle.std.specs.Prelude.{◌≡◌, ℕ, ◌<◌, ◌≤◌, List, [], ◌∷◌, Bool, true, false, Option, Some, None}
 use Rattle.oc_values.specs.declared.integers.BinaryOp.{BinaryOp}
-use Rattle.oc_tree.specs.declared.spot.Spot.{Spot}
-use Rattle.oc_tree.specs.declared.parsed.Expr.{Expr}
-use Rattle.oc_tree.specs.declared.parsed.ExprNode.{ExprNode}
-use Rattle.oc_tree.specs.declared.parsed.ExprNode.TheVariants as e
+use Rattle.oc_source.specs.declared.spot.Spot.{Spot}
+use Rattle.oc_source.specs.declared.parsed.Expr.{Expr}
+use Rattle.oc_source.specs.declared.parsed.ExprNode.{ExprNode}
+use Rattle.oc_source.specs.declared.parsed.ExprNode.TheVariants as e
 use Rattle.oc_lexer.specs.declared.token.Token.{Token}
 use Rattle.oc_lexer.specs.declared.token.TokenKind.{TokenKind}
 use Rattle.oc_lexer.specs.declared.token.TokenKind.TheVariants.{Name, Number, Character, Text, Keyword, Sign}
@@ -16,7 +16,7 @@ use Rattle.oc_grammar.specs.declared.tables.Prefix.{Prefix}
 use Rattle.oc_grammar.specs.declared.tables.Infix.{Infix}
 use Rattle.oc_grammar.specs.Tokens.{Is, NotNext}
 use Rattle.oc_grammar.specs.Tables.{prefix, operator, assignment, opening}
-use Rattle.oc_tree.specs.Parsed.{expr}
+use Rattle.oc_source.specs.Parsed.{expr}
 use Rattle.oc_grammar.specs.Trees.{prefixed, Leaf}
 use Rattle.oc_grammar.specs.Reading.{End, Then, By, Maybe, Loop}
 use Rattle.oc_grammar.specs.Calls.{One, ANamed, Placed}

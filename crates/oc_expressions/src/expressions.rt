@@ -16,8 +16,8 @@ use oc_declarators::declarators::closed_type;
 use oc_grammar::ParseError;
 use oc_grammar::taking::{eat, expect, is_word, name, next, next_spot};
 use oc_lexer::{Keyword, Sign, Token, TokenKind};
-use oc_tree::Spot;
-use oc_tree::parsed::{Expr, ExprNode};
+use oc_source::Spot;
+use oc_source::parsed::{Expr, ExprNode};
 use oc_values::{Boxed, Items, Name};
 use std::alloc::Global;
 

@@ -1,16 +1,17 @@
 //! Expressions of one token, and nodes.
 
 ghost use Rattle.std.specs.Prelude.{◌≡◌, MatchOption, IfOk};
-ghost use Rattle.oc_tree.specs.declared.parsed.Expr.{Expr};
-ghost use Rattle.oc_tree.specs.declared.parsed.ExprNode.{ExprNode};
-ghost use Rattle.oc_tree.specs.Parsed.{expr};
+ghost use Rattle.oc_source.specs.declared.parsed.Expr.{Expr};
+ghost use Rattle.oc_source.specs.declared.parsed.ExprNode.{ExprNode};
+ghost use Rattle.oc_source.specs.Parsed.{expr};
 ghost use Rattle.oc_grammar.specs.Trees.{prefixed as prefixed_node, infixed as infixed_node, Leaf};
 ghost use Rattle.oc_expressions.specs.Parts.{LeafOf};
 
 use oc_grammar::tables::{Infix, Prefix};
 use oc_lexer::{Keyword, Token, TokenKind};
-use oc_tree::parsed::{Expr, ExprNode};
-use oc_tree::{IntKind, Literal, Spot};
+use oc_source::parsed::{Expr, ExprNode};
+use oc_source::{Literal, Spot};
+use oc_values::IntKind;
 use oc_values::{Boxed, Name, NoMemory};
 use std::alloc::{AllocError, Global};
 

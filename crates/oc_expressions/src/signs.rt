@@ -10,7 +10,7 @@ use oc_grammar::tables::{
 };
 use oc_grammar::taking::{next, sign_of};
 use oc_lexer::{Sign, Token};
-use oc_tree::BinaryOp;
+use oc_values::BinaryOp;
 
 /// What stands after an operand.
 #[derive(Clone, Copy, Debug, PartialEq, Eq)]

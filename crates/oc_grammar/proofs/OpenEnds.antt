@@ -1,12 +1,12 @@
 -- Which nodes still take an `else`.
 use Rattle.std.proofs.Common.{◌≡◌, Bool, true, false, Option, Some, None, List, ap, sym, ◌∙◌}
-use Rattle.oc_tree.specs.declared.spot.Spot.{Spot}
-use Rattle.oc_tree.specs.declared.parsed.Expr.{Expr}
-use Rattle.oc_tree.specs.declared.parsed.ForInit.{ForInit}
-use Rattle.oc_tree.specs.declared.parsed.Stmt.{Stmt, fold-roll-Stmt}
-use Rattle.oc_tree.specs.declared.parsed.StmtNode.{StmtNode, StmtNode-F, fold-StmtNode, fold-roll-StmtNode}
-use Rattle.oc_tree.specs.declared.parsed.StmtNode.TheVariants as st
-use Rattle.oc_tree.specs.Parsed.{stmt}
+use Rattle.oc_source.specs.declared.spot.Spot.{Spot}
+use Rattle.oc_source.specs.declared.parsed.Expr.{Expr}
+use Rattle.oc_source.specs.declared.parsed.ForInit.{ForInit}
+use Rattle.oc_source.specs.declared.parsed.Stmt.{Stmt, fold-roll-Stmt}
+use Rattle.oc_source.specs.declared.parsed.StmtNode.{StmtNode, StmtNode-F, fold-StmtNode, fold-roll-StmtNode}
+use Rattle.oc_source.specs.declared.parsed.StmtNode.TheVariants as st
+use Rattle.oc_source.specs.Parsed.{stmt}
 use Rattle.oc_grammar.specs.Open.{open_node, ends_open}
 
 opens : StmtNode → Bool

@@ -1,7 +1,7 @@
 -- Calls: what a call that reads a form answers.
 use Rattle.std.specs.Prelude.{ℕ, List, [], ◌∷◌, Result, Ok, Err}
 use Rattle.std.specs.Borrow.{Bor}
-use Rattle.oc_tree.specs.declared.spot.Spot.{Spot}
+use Rattle.oc_source.specs.declared.spot.Spot.{Spot}
 use Rattle.oc_lexer.specs.declared.token.Token.{Token}
 use Rattle.oc_lexer.specs.declared.token.TokenKind.{TokenKind}
 use Rattle.oc_lexer.specs.declared.token.TokenKind.TheVariants.{Name}

@@ -1,7 +1,7 @@
 -- Open statements: those that could still take an `else`.
 use Rattle.std.specs.Prelude.{Bool, true, false, Some, None}
-use Rattle.oc_tree.specs.declared.parsed.Stmt.{Stmt, fold-Stmt}
-use Rattle.oc_tree.specs.declared.parsed.StmtNode.{StmtNode-F}
+use Rattle.oc_source.specs.declared.parsed.Stmt.{Stmt, fold-Stmt}
+use Rattle.oc_source.specs.declared.parsed.StmtNode.{StmtNode-F}
 
 -- whether a statement ends in an `if` or `obliv if` without an else, from the same of its parts
 abbrev pub open_node : StmtNode-F Bool Bool → Bool

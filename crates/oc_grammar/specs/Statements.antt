@@ -1,20 +1,20 @@
 -- Statements: which tokens spell a declaration, a statement and a block.
 use Rattle.std.specs.Prelude.{◌≡◌, List, [], ◌∷◌, ◌++◌, true, false, Option, Some, None}
-use Rattle.oc_tree.specs.declared.parsed.BaseName.{BaseName}
-use Rattle.oc_tree.specs.declared.parsed.FieldDef.{FieldDef}
-use Rattle.oc_tree.specs.declared.parsed.Declared.{Declared}
-use Rattle.oc_tree.specs.declared.parsed.Expr.{Expr}
-use Rattle.oc_tree.specs.declared.parsed.Stmt.{Stmt}
-use Rattle.oc_tree.specs.declared.parsed.StmtNode.TheVariants as st
-use Rattle.oc_tree.specs.declared.parsed.ForInit.{ForInit}
-use Rattle.oc_tree.specs.declared.parsed.ForInit.TheVariants as init
+use Rattle.oc_source.specs.declared.parsed.BaseName.{BaseName}
+use Rattle.oc_source.specs.declared.parsed.FieldDef.{FieldDef}
+use Rattle.oc_source.specs.declared.parsed.Declared.{Declared}
+use Rattle.oc_source.specs.declared.parsed.Expr.{Expr}
+use Rattle.oc_source.specs.declared.parsed.Stmt.{Stmt}
+use Rattle.oc_source.specs.declared.parsed.StmtNode.TheVariants as st
+use Rattle.oc_source.specs.declared.parsed.ForInit.{ForInit}
+use Rattle.oc_source.specs.declared.parsed.ForInit.TheVariants as init
 use Rattle.oc_lexer.specs.declared.token.Token.{Token}
 use Rattle.oc_lexer.specs.declared.token.TokenKind.TheVariants.{Name, Keyword, Sign}
 use Rattle.oc_lexer.specs.declared.token.Keyword.TheVariants as w
 use Rattle.oc_lexer.specs.declared.token.Sign.{Sign as SignType}
 use Rattle.oc_lexer.specs.declared.token.Sign.TheVariants as s
 use Rattle.oc_grammar.specs.Tokens.{Is, NotNext, spot_at}
-use Rattle.oc_tree.specs.Parsed.{stmt, declared}
+use Rattle.oc_source.specs.Parsed.{stmt, declared}
 use Rattle.oc_grammar.specs.WrittenTypes.{Base, Declr, Commas}
 use Rattle.oc_grammar.specs.Expressions.{Expression, Before}
 use Rattle.oc_grammar.specs.Open.{ends_open}

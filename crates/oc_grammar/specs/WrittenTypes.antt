@@ -2,10 +2,10 @@
 use Rattle.std.specs.Prelude.{ℕ, ◌+◌, List, [], ◌∷◌, ◌++◌, true, false}
 use Rattle.oc_values.specs.declared.integers.IntKind.{IntKind}
 use Rattle.oc_values.specs.declared.integers.IntKind.TheVariants as kind
-use Rattle.oc_tree.specs.declared.literal.Literal.{Literal}
-use Rattle.oc_tree.specs.declared.parsed.BaseName.{BaseName}
-use Rattle.oc_tree.specs.declared.parsed.TypeName.{TypeName}
-use Rattle.oc_tree.specs.declared.parsed.FieldDef.{FieldDef}
+use Rattle.oc_source.specs.declared.literal.Literal.{Literal}
+use Rattle.oc_source.specs.declared.parsed.BaseName.{BaseName}
+use Rattle.oc_source.specs.declared.parsed.TypeName.{TypeName}
+use Rattle.oc_source.specs.declared.parsed.FieldDef.{FieldDef}
 use Rattle.oc_lexer.specs.declared.token.Token.{Token}
 use Rattle.oc_lexer.specs.declared.token.TokenKind.TheVariants.{Name, Number, Keyword, Sign}
 use Rattle.oc_lexer.specs.declared.token.Keyword.{Keyword as Word}
@@ -15,7 +15,7 @@ use Rattle.oc_grammar.specs.declared.tables.Width.{Width}
 use Rattle.oc_grammar.specs.declared.tables.Width.TheVariants as width
 use Rattle.oc_grammar.specs.Tokens.{Is, spot_at}
 use Rattle.oc_grammar.specs.Tables.{kind_of}
-use Rattle.oc_tree.specs.Parsed.{int_base, field}
+use Rattle.oc_source.specs.Parsed.{int_base, field}
 use Rattle.oc_grammar.specs.Trees.{struct_base, type_name}
 
 -- the keyword, or nothing

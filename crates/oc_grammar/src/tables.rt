@@ -4,8 +4,8 @@ ghost use Rattle.std.specs.Prelude.{◌≡◌};
 ghost use Rattle.oc_grammar.specs.Tables.{prefix, operator, assignment, opening, kind_of};
 
 use oc_lexer::{Keyword, Sign, TokenKind};
-use oc_tree::parsed::UnaryOp;
-use oc_tree::{BinaryOp, IntKind};
+use oc_source::parsed::UnaryOp;
+use oc_values::{BinaryOp, IntKind};
 
 /// A sign before an operand.
 #[derive(Clone, Copy, Debug, PartialEq, Eq)]

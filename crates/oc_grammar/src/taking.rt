@@ -8,7 +8,7 @@ ghost use Rattle.oc_grammar.specs.Calls.{Passes, Reads, One, ANamed};
 
 use crate::ParseError;
 use oc_lexer::{Keyword, Sign, Token, TokenKind};
-use oc_tree::Spot;
+use oc_source::Spot;
 use oc_values::Name;
 use std::alloc::Global;
 

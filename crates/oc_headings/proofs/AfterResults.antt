@@ -1,9 +1,9 @@
 -- Functions, after their result.
 use Rattle.std.proofs.Common.{◌≡◌, List, [], ◌∷◌, ◌++◌, Bool, true, false, Option, Some, None, refl, sym, ◌∙◌, ap, append-nil, append_assoc, subst}
-use Rattle.oc_tree.specs.declared.parsed.TypeName.{TypeName}
-use Rattle.oc_tree.specs.declared.parsed.Param.{Param}
-use Rattle.oc_tree.specs.declared.parsed.Stmt.{Stmt}
-use Rattle.oc_tree.specs.declared.parsed.Function.{Function}
+use Rattle.oc_source.specs.declared.parsed.TypeName.{TypeName}
+use Rattle.oc_source.specs.declared.parsed.Param.{Param}
+use Rattle.oc_source.specs.declared.parsed.Stmt.{Stmt}
+use Rattle.oc_source.specs.declared.parsed.Function.{Function}
 use Rattle.oc_lexer.specs.declared.token.Token.{Token}
 use Rattle.oc_lexer.specs.declared.token.TokenKind.TheVariants.{Name, Keyword, Sign}
 use Rattle.oc_lexer.specs.declared.token.Keyword.TheVariants as w

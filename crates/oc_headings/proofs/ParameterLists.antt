@@ -1,9 +1,9 @@
 -- Parameters of a function.
 use Rattle.std.proofs.Common.{◌≡◌, ℕ, List, [], ◌∷◌, ◌++◌, refl, ap, append-nil, append_assoc, subst}
-use Rattle.oc_tree.specs.declared.parsed.BaseName.{BaseName}
-use Rattle.oc_tree.specs.declared.parsed.Param.{Param}
-use Rattle.oc_tree.specs.declared.parsed.ParamArray.{ParamArray}
-use Rattle.oc_tree.specs.declared.parsed.ParamArray.TheVariants as array
+use Rattle.oc_source.specs.declared.parsed.BaseName.{BaseName}
+use Rattle.oc_source.specs.declared.parsed.Param.{Param}
+use Rattle.oc_source.specs.declared.parsed.ParamArray.{ParamArray}
+use Rattle.oc_source.specs.declared.parsed.ParamArray.TheVariants as array
 use Rattle.oc_lexer.specs.declared.token.Token.{Token}
 use Rattle.oc_lexer.specs.declared.token.TokenKind.TheVariants.{Name, Keyword, Sign}
 use Rattle.oc_lexer.specs.declared.token.Keyword.TheVariants as w

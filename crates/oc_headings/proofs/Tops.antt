@@ -1,10 +1,10 @@
 -- Struct definitions and functions, as they stand in a source.
 use Rattle.std.proofs.Common.{◌≡◌, ℕ, List, [], ◌∷◌, ◌++◌, false, Option, Some, None, refl, sym, ◌∙◌, ap, append-nil, append_assoc, subst}
-use Rattle.oc_tree.specs.declared.spot.Spot.{Spot}
-use Rattle.oc_tree.specs.declared.parsed.BaseName.{BaseName}
-use Rattle.oc_tree.specs.declared.parsed.TypeName.{TypeName}
-use Rattle.oc_tree.specs.declared.parsed.FieldDef.{FieldDef}
-use Rattle.oc_tree.specs.declared.parsed.Function.{Function}
+use Rattle.oc_source.specs.declared.spot.Spot.{Spot}
+use Rattle.oc_source.specs.declared.parsed.BaseName.{BaseName}
+use Rattle.oc_source.specs.declared.parsed.TypeName.{TypeName}
+use Rattle.oc_source.specs.declared.parsed.FieldDef.{FieldDef}
+use Rattle.oc_source.specs.declared.parsed.Function.{Function}
 use Rattle.oc_lexer.specs.declared.token.Token.{Token}
 use Rattle.oc_lexer.specs.declared.token.TokenKind.TheVariants.{Name, Keyword, Sign}
 use Rattle.oc_lexer.specs.declared.token.Keyword.TheVariants as w

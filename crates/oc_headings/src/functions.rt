@@ -11,7 +11,7 @@ use oc_grammar::ParseError;
 use oc_grammar::taking::{Named, eat, eat_word, expect, name};
 use oc_lexer::{Keyword, Sign, Token};
 use oc_statements::statements::block;
-use oc_tree::parsed::{Function, Param, Stmt, TypeName};
+use oc_source::parsed::{Function, Param, Stmt, TypeName};
 use oc_values::Items;
 use std::alloc::Global;
 

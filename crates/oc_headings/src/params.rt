@@ -13,7 +13,7 @@ use oc_declarators::declarators::{length, stars};
 use oc_grammar::ParseError;
 use oc_grammar::taking::{eat, eat_word, expect, name};
 use oc_lexer::{Keyword, Sign, Token};
-use oc_tree::parsed::{Param, ParamArray};
+use oc_source::parsed::{Param, ParamArray};
 use oc_values::Items;
 use std::alloc::Global;
 

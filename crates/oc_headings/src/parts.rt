@@ -12,8 +12,8 @@ use oc_declarators::declarators::stars;
 use oc_grammar::ParseError;
 use oc_grammar::taking::{Named, eat, eat_word, expect, name, next_spot};
 use oc_lexer::{Keyword, Sign, Token};
-use oc_tree::Spot;
-use oc_tree::parsed::{BaseKind, BaseName, Function, StructDef, TypeName};
+use oc_source::Spot;
+use oc_source::parsed::{BaseKind, BaseName, Function, StructDef, TypeName};
 use std::alloc::Global;
 
 /// A part of a program.

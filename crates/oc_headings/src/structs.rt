@@ -12,7 +12,7 @@ use oc_declarators::declarators::declr;
 use oc_grammar::ParseError;
 use oc_grammar::taking::{eat, expect};
 use oc_lexer::{Sign, Token};
-use oc_tree::parsed::{BaseName, FieldDef};
+use oc_source::parsed::{BaseName, FieldDef};
 use oc_values::Items;
 use std::alloc::Global;
 

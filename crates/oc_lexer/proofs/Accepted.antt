@@ -6,7 +6,7 @@ use Rattle.std.specs.Str.{bytes_eq}
 use Rattle.std.proofs.lemmas.Bool.{and_parts, and_from, false≢true, true≢false}
 use Rattle.std.proofs.lemmas.Bool.Decides.{nat_tests}
 use Rattle.std.proofs.lemmas.Slice.Eq.{bytes_eq-Decides}
-use Rattle.oc_tree.specs.declared.literal.Literal.{Literal}
+use Rattle.oc_source.specs.declared.literal.Literal.{Literal}
 use Rattle.oc_lexer.specs.declared.bytes.ByteClass.TheVariants as class
 use Rattle.oc_lexer.specs.Bytes.{is_in, is_space, is_name_start, is_name_byte, begins_with, run, after}
 use Rattle.oc_lexer.specs.Comments.{ends_line}

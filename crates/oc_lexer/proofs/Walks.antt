@@ -16,8 +16,8 @@ use Rattle.std.proofs.lemmas.Cmp.{nat_list_eq_equiv}
 use denote.Ref.{Bor}
 use Rattle.oc_lexer.proofs.Exact.{front_of, spelled_of}
 use Rattle.oc_lexer.proofs.Openings.{split_is, take_front, drop_front}
-use Rattle.oc_tree.specs.declared.spot.Spot.{Spot}
-use Rattle.oc_tree.specs.declared.literal.Literal.{Literal}
+use Rattle.oc_source.specs.declared.spot.Spot.{Spot}
+use Rattle.oc_source.specs.declared.literal.Literal.{Literal}
 use Rattle.oc_lexer.specs.declared.places.Place.{Place}
 use Rattle.oc_lexer.specs.declared.token.LexRule.{LexRule}
 use Rattle.oc_lexer.specs.declared.token.Token.{Token}

@@ -1,5 +1,5 @@
 -- Where a fault is a refusal.
-use Rattle.oc_tree.specs.declared.spot.Spot.{Spot}
+use Rattle.oc_source.specs.declared.spot.Spot.{Spot}
 use Rattle.oc_lexer.specs.declared.token.LexRule.{LexRule}
 use Rattle.oc_lexer.specs.declared.token.LexFault.{LexFault}
 use Rattle.oc_lexer.specs.declared.token.LexFault.TheVariants.{Refused, NoMemory}

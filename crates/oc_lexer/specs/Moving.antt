@@ -3,7 +3,7 @@ use Rattle.std.specs.Prelude.{ℕ, ◌+◌, List, [], ◌∷◌, length, fold, O
 use Rattle.oc_lexer.specs.declared.places.Place.{Place}
 use Rattle.oc_lexer.specs.declared.token.Token.{Token}
 use Rattle.oc_lexer.specs.Bytes.{is_blank}
-use Rattle.oc_tree.specs.declared.literal.Literal.{Literal}
+use Rattle.oc_source.specs.declared.literal.Literal.{Literal}
 use Rattle.oc_lexer.specs.Pieces.{Piece, Blank, Comment, Include, Define, Lexeme}
 use Rattle.oc_lexer.specs.Sources.{replaced_by}
 use Rattle.oc_lexer.specs.Places.{is_newline, spot_after, is_fresh_after}

@@ -4,8 +4,8 @@ use Rattle.std.specs.Map.{lookup}
 use Rattle.std.specs.Str.{bytes_eq}
 use Rattle.oc_values.specs.declared.integers.IntKind.{IntKind}
 use Rattle.oc_values.specs.declared.integers.IntKind.TheVariants.{I32, U32, I64, U64}
-use Rattle.oc_tree.specs.declared.literal.Literal.{Literal}
-use Rattle.oc_tree.specs.Literals.{holds, is_literal}
+use Rattle.oc_source.specs.declared.literal.Literal.{Literal}
+use Rattle.oc_source.specs.Literals.{holds, is_literal}
 use Rattle.oc_lexer.specs.declared.bytes.ByteClass.{ByteClass}
 use Rattle.oc_lexer.specs.declared.bytes.ByteClass.TheVariants as class
 use Rattle.oc_lexer.specs.declared.numbers.Form.{Form}

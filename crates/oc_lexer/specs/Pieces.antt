@@ -1,7 +1,7 @@
 -- The pieces of a source: blanks, comments, directives and the spellings of tokens, each the longest that can start there.
 use Rattle.std.specs.Prelude.{ℕ, ◌≡◌, ◌≤◌, ◌⊎◌, List, [], ◌∷◌, ◌++◌, length, map, Some, Bool, not, IsTrue}
 use Rattle.std.specs.List.{list_all}
-use Rattle.oc_tree.specs.declared.literal.Literal.{Literal}
+use Rattle.oc_source.specs.declared.literal.Literal.{Literal}
 use Rattle.oc_lexer.specs.declared.bytes.ByteClass.TheVariants as class
 use Rattle.oc_lexer.specs.declared.kinds.Kind.{Kind}
 use Rattle.oc_lexer.specs.declared.kinds.Kind.TheVariants as k

@@ -1,7 +1,7 @@
 -- Where a byte stands, told by what stands before it in the source.
 use Rattle.std.specs.Prelude.{ℕ, ◌+◌, List, [], ◌∷◌, ◌++◌, length, fold, count_by, Bool, nat_eq, if◌then◌else◌}
 use Rattle.std.specs.List.{list_all}
-use Rattle.oc_tree.specs.declared.spot.Spot.{Spot}
+use Rattle.oc_source.specs.declared.spot.Spot.{Spot}
 use Rattle.oc_lexer.specs.Bytes.{is_blank}
 
 -- the byte that ends a line

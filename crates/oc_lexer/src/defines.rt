@@ -7,7 +7,7 @@ ghost use Rattle.oc_lexer.specs.Sources.{replaced_by};
 ghost use Rattle.oc_lexer.specs.Known.{get_at};
 
 use crate::token::TokenKind;
-use oc_tree::Literal;
+use oc_source::Literal;
 use oc_values::NoMemory;
 use std::alloc::Global;
 use std::collections::BTreeMap;

@@ -7,7 +7,7 @@ use crate::bytes::{ByteClass, byte_at, is_name_start, split_run};
 use crate::comments::ends_line;
 use crate::numbers::literal_of;
 use crate::words::keyword_of;
-use oc_tree::Literal;
+use oc_source::Literal;
 
 /// What an `#include` may name.
 const HEADERS: [&[u8]; 4] = [b"<obliv.oh>", b"<stdio.h>", b"<stdlib.h>", b"<stdbool.h>"];

@@ -3,11 +3,11 @@
 ghost use Rattle.std.specs.Prelude.{◌≡◌, ◌≤◌, ◌^◌, MatchOption, length, map};
 ghost use Rattle.std.specs.Map.{lookup};
 ghost use Rattle.std.specs.Str.{bytes_eq};
-ghost use Rattle.oc_tree.specs.Literals.{holds};
+ghost use Rattle.oc_source.specs.Literals.{holds};
 ghost use Rattle.oc_lexer.specs.Numbers.{base_of, digit_class, digit_value, digits_of, first_holding, form_of, kinds_of, literal_of, literal_with, prefix_length, suffix_of, suffix_text, value_of};
 
 use crate::bytes::{ByteClass, byte_at, split_run};
-use oc_tree::Literal;
+use oc_source::Literal;
 use oc_values::IntKind;
 
 /// How the digits of a number are read.

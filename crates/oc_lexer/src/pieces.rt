@@ -11,7 +11,7 @@ use crate::literals::{character_at, quoted};
 use crate::numbers::literal_of;
 use crate::token::TokenKind;
 use crate::words::{keyword_of, sign_at};
-use oc_tree::Literal;
+use oc_source::Literal;
 use oc_values::{Name, NoMemory};
 use std::alloc::Global;
 

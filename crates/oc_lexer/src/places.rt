@@ -4,7 +4,7 @@ ghost use Rattle.std.specs.Prelude.{◌≡◌, ◌≤◌, ◌<◌, ◌+◌, leng
 ghost use Rattle.oc_lexer.specs.Moving.{passed, stepped};
 
 use crate::bytes::is_space;
-use oc_tree::Spot;
+use oc_source::Spot;
 
 /// Where a byte stands: its index in the source, its spot, and whether only blanks stand before it on its
 /// line.

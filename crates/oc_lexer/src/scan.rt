@@ -1,7 +1,7 @@
 //! The tokens of a whole source.
 
 ghost use Rattle.std.specs.Prelude.{◌≡◌, ◌≤◌, ◌<◌, ◌+◌, ◌++◌, ℕ, List, IfOk, IfErr, OnOk, length, option_map};
-ghost use Rattle.oc_tree.specs.declared.spot.Spot.{Spot};
+ghost use Rattle.oc_source.specs.declared.spot.Spot.{Spot};
 ghost use Rattle.oc_lexer.specs.declared.token.LexRule.{LexRule};
 ghost use Rattle.oc_lexer.specs.declared.token.Token.{Token};
 ghost use Rattle.oc_lexer.specs.Faults.{IfRefused};
@@ -19,7 +19,7 @@ use crate::numbers::suffix_of;
 use crate::pieces::{Piece, piece_at};
 use crate::places::{Place, START, passed};
 use crate::token::{LexFault, LexRule, Lexed, Token};
-use oc_tree::Literal;
+use oc_source::Literal;
 use oc_values::{Items, NoMemory};
 use std::alloc::Global;
 use std::collections::BTreeMap;

@@ -1,6 +1,6 @@
 use super::*;
 use crate::words::*;
-use oc_tree::IntKind;
+use oc_values::IntKind;
 use std::alloc::{AllocError, Global};
 use std::process::Abort;
 use std::test::*;

@@ -2,7 +2,7 @@
 
 ghost use Rattle.std.specs.Prelude.{◌≡◌};
 
-use oc_tree::{Literal, Spot};
+use oc_source::{Literal, Spot};
 use oc_values::{Items, Name, NoMemory};
 
 /// A word that can't be a name.

@@ -1,14 +1,14 @@
 -- The depth of each form of an expression.
 use Rattle.std.proofs.Common.{◌≡◌, ℕ, ◌+◌, Bool, true, List, [], ◌∷◌, map, Option, ap, sym, ◌∙◌}
 use Rattle.oc_values.specs.declared.integers.BinaryOp.{BinaryOp}
-use Rattle.oc_tree.specs.declared.spot.Spot.{Spot}
-use Rattle.oc_tree.specs.declared.literal.Literal.{Literal}
-use Rattle.oc_tree.specs.declared.parsed.UnaryOp.{UnaryOp}
-use Rattle.oc_tree.specs.declared.parsed.TypeName.{TypeName}
-use Rattle.oc_tree.specs.declared.parsed.Expr.{Expr, fold-roll-Expr}
-use Rattle.oc_tree.specs.declared.parsed.ExprNode.{ExprNode, ExprNode-F, fold-ExprNode, fold-roll-ExprNode}
-use Rattle.oc_tree.specs.declared.parsed.ExprNode.TheVariants as e
-use Rattle.oc_tree.specs.Parsed.{expr}
+use Rattle.oc_source.specs.declared.spot.Spot.{Spot}
+use Rattle.oc_source.specs.declared.literal.Literal.{Literal}
+use Rattle.oc_source.specs.declared.parsed.UnaryOp.{UnaryOp}
+use Rattle.oc_source.specs.declared.parsed.TypeName.{TypeName}
+use Rattle.oc_source.specs.declared.parsed.Expr.{Expr, fold-roll-Expr}
+use Rattle.oc_source.specs.declared.parsed.ExprNode.{ExprNode, ExprNode-F, fold-ExprNode, fold-roll-ExprNode}
+use Rattle.oc_source.specs.declared.parsed.ExprNode.TheVariants as e
+use Rattle.oc_source.specs.Parsed.{expr}
 use Rattle.oc_grammar.specs.declared.tables.Prefix.{Prefix}
 use Rattle.oc_grammar.specs.declared.tables.Prefix.TheVariants as p
 use Rattle.oc_grammar.specs.declared.tables.Infix.{Infix}

@@ -1,6 +1,6 @@
 -- Loads of the tokens that are passed.
 use Rattle.std.proofs.Common.{◌≡◌, ℕ, zero, suc, ◌<◌, ◌≤◌, List, [], ◌∷◌, ◌++◌, length, drop, slice_index, refl, arith, lit≤, append_assoc, append-nil, length-append}
-use Rattle.oc_tree.specs.declared.spot.Spot.{Spot}
+use Rattle.oc_source.specs.declared.spot.Spot.{Spot}
 use Rattle.oc_lexer.specs.declared.token.Token.{Token}
 use Rattle.oc_parser.specs.Load.{Stack, load, counted, passed, effect_of, is_else_next, loads_after, loads, IsLight, HeavyAt}
 use Rattle.oc_parser.specs.Places.{place_spot}

@@ -1,12 +1,12 @@
 -- Where no load is over 1,000, the tree is no deeper.
 use Rattle.std.proofs.Common.{ℕ, ◌≤◌, max, Bool, List, [], ◌∷◌, ◌++◌, map, Option, refl, sym, ap, subst, arith, append_assoc, append-nil}
-use Rattle.oc_tree.specs.declared.parsed.TypeName.{TypeName}
-use Rattle.oc_tree.specs.declared.parsed.FieldDef.{FieldDef}
-use Rattle.oc_tree.specs.declared.parsed.StructDef.{StructDef}
-use Rattle.oc_tree.specs.declared.parsed.Param.{Param}
-use Rattle.oc_tree.specs.declared.parsed.ParamArray.{ParamArray}
-use Rattle.oc_tree.specs.declared.parsed.Function.{Function}
-use Rattle.oc_tree.specs.declared.parsed.Stmt.{Stmt}
+use Rattle.oc_source.specs.declared.parsed.TypeName.{TypeName}
+use Rattle.oc_source.specs.declared.parsed.FieldDef.{FieldDef}
+use Rattle.oc_source.specs.declared.parsed.StructDef.{StructDef}
+use Rattle.oc_source.specs.declared.parsed.Param.{Param}
+use Rattle.oc_source.specs.declared.parsed.ParamArray.{ParamArray}
+use Rattle.oc_source.specs.declared.parsed.Function.{Function}
+use Rattle.oc_source.specs.declared.parsed.Stmt.{Stmt}
 use Rattle.oc_lexer.specs.declared.token.Token.{Token}
 use Rattle.oc_grammar.specs.Headings as h
 use Rattle.oc_grammar.specs.Headings.{Fields, fields, AllFields, last_fields, more_fields, Struct, struct, Brackets, open_brackets, sized, Parameter, parameter, Parameters, no_parameter, void_parameter, parameters, Result, void, typed, Mark, unmarked, marked, Body, prototype, body, FunctionSpelled, a_function, after_result, Parts, no_part, struct_part, function_part, Derives, program}

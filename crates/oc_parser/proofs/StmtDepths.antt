@@ -1,13 +1,13 @@
 -- The depth of each form of a statement.
 use Rattle.std.proofs.Common.{◌≡◌, ℕ, ◌+◌, List, [], ◌∷◌, map, Option, Some, None, ap, sym, ◌∙◌}
-use Rattle.oc_tree.specs.declared.spot.Spot.{Spot}
-use Rattle.oc_tree.specs.declared.parsed.Declared.{Declared}
-use Rattle.oc_tree.specs.declared.parsed.Expr.{Expr}
-use Rattle.oc_tree.specs.declared.parsed.ForInit.{ForInit}
-use Rattle.oc_tree.specs.declared.parsed.Stmt.{Stmt, fold-roll-Stmt}
-use Rattle.oc_tree.specs.declared.parsed.StmtNode.{StmtNode, StmtNode-F, fold-StmtNode, fold-roll-StmtNode}
-use Rattle.oc_tree.specs.declared.parsed.StmtNode.TheVariants as st
-use Rattle.oc_tree.specs.Parsed.{stmt}
+use Rattle.oc_source.specs.declared.spot.Spot.{Spot}
+use Rattle.oc_source.specs.declared.parsed.Declared.{Declared}
+use Rattle.oc_source.specs.declared.parsed.Expr.{Expr}
+use Rattle.oc_source.specs.declared.parsed.ForInit.{ForInit}
+use Rattle.oc_source.specs.declared.parsed.Stmt.{Stmt, fold-roll-Stmt}
+use Rattle.oc_source.specs.declared.parsed.StmtNode.{StmtNode, StmtNode-F, fold-StmtNode, fold-roll-StmtNode}
+use Rattle.oc_source.specs.declared.parsed.StmtNode.TheVariants as st
+use Rattle.oc_source.specs.Parsed.{stmt}
 use Rattle.oc_parser.specs.Depth.{greatest, given, parts_of_stmt, expr_depth, declared_depth, init_depth, stmt_depth}
 
 abbrev one_more : StmtNode-F ℕ ℕ → ℕ

@@ -2,10 +2,10 @@
 use Rattle.std.proofs.Common.{◌≡◌, ◌==◌, Bool, true, false, List, [], ◌∷◌, ◌++◌, length, refl, sym, ◌∙◌, append-nil, append_assoc, subst}
 use Rattle.std.proofs.lemmas.Bool.{eqb-true}
 use Rattle.std.proofs.lemmas.List.{nil_from_length}
-use Rattle.oc_tree.specs.declared.spot.Spot.{Spot}
-use Rattle.oc_tree.specs.declared.parsed.StructDef.{StructDef}
-use Rattle.oc_tree.specs.declared.parsed.Function.{Function}
-use Rattle.oc_tree.specs.declared.parsed.Program.{Program}
+use Rattle.oc_source.specs.declared.spot.Spot.{Spot}
+use Rattle.oc_source.specs.declared.parsed.StructDef.{StructDef}
+use Rattle.oc_source.specs.declared.parsed.Function.{Function}
+use Rattle.oc_source.specs.declared.parsed.Program.{Program}
 use Rattle.oc_lexer.specs.declared.token.Token.{Token}
 use Rattle.oc_grammar.specs.Reading.{SameNext, Found, Refused, Leaves, Any, End, ended, Then, then}
 use Rattle.oc_grammar.specs.WrittenTypes.{type_named}

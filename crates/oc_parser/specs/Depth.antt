@@ -1,18 +1,18 @@
 -- Depth: how many nodes of a tree lie one under another. Stars and lengths in brackets count as nodes.
 use Rattle.std.specs.Prelude.{ℕ, ◌+◌, ◌≤◌, max, List, [], ◌∷◌, map, length, Option, Some, None}
-use Rattle.oc_tree.specs.declared.parsed.TypeName.{TypeName}
-use Rattle.oc_tree.specs.declared.parsed.FieldDef.{FieldDef}
-use Rattle.oc_tree.specs.declared.parsed.Declared.{Declared}
-use Rattle.oc_tree.specs.declared.parsed.Expr.{Expr, fold-Expr}
-use Rattle.oc_tree.specs.declared.parsed.ExprNode.{ExprNode-F}
-use Rattle.oc_tree.specs.declared.parsed.ForInit.{ForInit}
-use Rattle.oc_tree.specs.declared.parsed.ForInit.TheVariants as init
-use Rattle.oc_tree.specs.declared.parsed.Stmt.{Stmt, fold-Stmt}
-use Rattle.oc_tree.specs.declared.parsed.StmtNode.{StmtNode-F}
-use Rattle.oc_tree.specs.declared.parsed.StructDef.{StructDef}
-use Rattle.oc_tree.specs.declared.parsed.Param.{Param}
-use Rattle.oc_tree.specs.declared.parsed.Function.{Function}
-use Rattle.oc_tree.specs.declared.parsed.Program.{Program}
+use Rattle.oc_source.specs.declared.parsed.TypeName.{TypeName}
+use Rattle.oc_source.specs.declared.parsed.FieldDef.{FieldDef}
+use Rattle.oc_source.specs.declared.parsed.Declared.{Declared}
+use Rattle.oc_source.specs.declared.parsed.Expr.{Expr, fold-Expr}
+use Rattle.oc_source.specs.declared.parsed.ExprNode.{ExprNode-F}
+use Rattle.oc_source.specs.declared.parsed.ForInit.{ForInit}
+use Rattle.oc_source.specs.declared.parsed.ForInit.TheVariants as init
+use Rattle.oc_source.specs.declared.parsed.Stmt.{Stmt, fold-Stmt}
+use Rattle.oc_source.specs.declared.parsed.StmtNode.{StmtNode-F}
+use Rattle.oc_source.specs.declared.parsed.StructDef.{StructDef}
+use Rattle.oc_source.specs.declared.parsed.Param.{Param}
+use Rattle.oc_source.specs.declared.parsed.Function.{Function}
+use Rattle.oc_source.specs.declared.parsed.Program.{Program}
 use Rattle.oc_lexer.specs.declared.token.Token.{Token}
 use Rattle.oc_grammar.specs.Headings.{Derives}
 use Rattle.oc_parser.specs.Load.{IsLight}

@@ -1,6 +1,6 @@
 -- Places: where the token at a place stands.
 use Rattle.std.specs.Prelude.{ℕ, List, [], ◌∷◌, drop}
-use Rattle.oc_tree.specs.declared.spot.Spot.{Spot}
+use Rattle.oc_source.specs.declared.spot.Spot.{Spot}
 use Rattle.oc_lexer.specs.declared.token.Token.{Token}
 
 -- the spot of the first token, or that of the end

@@ -1,9 +1,9 @@
 -- Programs: parts one after the other, up to the end.
 use Rattle.std.specs.Prelude.{◌≡◌, List, [], ◌∷◌, ◌++◌}
-use Rattle.oc_tree.specs.declared.spot.Spot.{Spot}
-use Rattle.oc_tree.specs.declared.parsed.StructDef.{StructDef}
-use Rattle.oc_tree.specs.declared.parsed.Function.{Function}
-use Rattle.oc_tree.specs.declared.parsed.Program.{Program}
+use Rattle.oc_source.specs.declared.spot.Spot.{Spot}
+use Rattle.oc_source.specs.declared.parsed.StructDef.{StructDef}
+use Rattle.oc_source.specs.declared.parsed.Function.{Function}
+use Rattle.oc_source.specs.declared.parsed.Program.{Program}
 use Rattle.oc_lexer.specs.declared.token.Token.{Token}
 use Rattle.oc_grammar.specs.Headings.{Parts}
 use Rattle.oc_headings.specs.declared.parts.Part.{Part}

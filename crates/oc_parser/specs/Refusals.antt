@@ -1,6 +1,6 @@
 -- Refusals: where tokens are refused, and by which rule.
 use Rattle.std.specs.Prelude.{◌≡◌, ℕ, suc, ◌<◌, ◌≤◌, List, ◌++◌, length, take}
-use Rattle.oc_tree.specs.declared.spot.Spot.{Spot}
+use Rattle.oc_source.specs.declared.spot.Spot.{Spot}
 use Rattle.oc_lexer.specs.declared.token.Lexed.{Lexed}
 use Rattle.oc_grammar.specs.Headings.{Derives}
 use Rattle.oc_parser.specs.declared.faults.ParseRule.{ParseRule}

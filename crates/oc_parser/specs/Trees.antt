@@ -1,6 +1,6 @@
 -- Trees: which program is the tree of a source.
 use Rattle.std.specs.Prelude.{◌≡◌}
-use Rattle.oc_tree.specs.declared.parsed.Program.{Program}
+use Rattle.oc_source.specs.declared.parsed.Program.{Program}
 use Rattle.oc_lexer.specs.declared.token.Lexed.{Lexed}
 use Rattle.oc_grammar.specs.Headings.{Derives}
 

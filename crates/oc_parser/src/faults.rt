@@ -1,6 +1,6 @@
 //! Why a source has no tree.
 
-use oc_tree::Spot;
+use oc_source::Spot;
 use oc_values::NoMemory;
 
 /// Why tokens have no tree.

@@ -1,7 +1,7 @@
 //! The loads of tokens.
 
 ghost use Rattle.std.specs.Prelude.{◌≡◌, ◌+◌, ◌-◌, ◌<◌, ◌≤◌, ℕ, IfOk, MatchOption};
-ghost use Rattle.oc_tree.specs.declared.spot.Spot.{Spot};
+ghost use Rattle.oc_source.specs.declared.spot.Spot.{Spot};
 ghost use Rattle.oc_parser.specs.Load.{stack, effect_of, counted, entered, popped, emptied, passed, is_else_next, IsLight, HeavyAt};
 ghost use Rattle.oc_parser.specs.Places.{place_spot};
 ghost use Rattle.oc_parser.specs.Stacks.{stack_of};
@@ -9,7 +9,7 @@ ghost use Rattle.oc_parser.specs.Stacks.{stack_of};
 use crate::entries::{Counts, Effect, Entry};
 use oc_grammar::taking::{is_word, next};
 use oc_lexer::{Keyword, Sign, Token, TokenKind};
-use oc_tree::Spot;
+use oc_source::Spot;
 use oc_values::{Items, NoMemory};
 use std::alloc::Global;
 

@@ -1,8 +1,8 @@
 //! From tokens to the tree.
 
 ghost use Rattle.std.specs.Prelude.{◌≡◌, ◌≤◌, IfOk, IfErr};
-ghost use Rattle.oc_tree.specs.declared.spot.Spot.{Spot};
-ghost use Rattle.oc_tree.specs.declared.parsed.Program.{Program};
+ghost use Rattle.oc_source.specs.declared.spot.Spot.{Spot};
+ghost use Rattle.oc_source.specs.declared.parsed.Program.{Program};
 ghost use Rattle.oc_grammar.specs.Headings.{Derives};
 ghost use Rattle.oc_parser.specs.declared.faults.ParseRule.{ParseRule};
 ghost use Rattle.oc_parser.specs.Depth.{depth};
@@ -15,7 +15,7 @@ use crate::load::first_heavy;
 use crate::programs::{program, spot_from};
 use oc_grammar::ParseError;
 use oc_lexer::Lexed;
-use oc_tree::parsed::Program;
+use oc_source::parsed::Program;
 use std::alloc::Global;
 
 /// The tree of a source.

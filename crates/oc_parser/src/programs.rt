@@ -10,8 +10,8 @@ use oc_grammar::ParseError;
 use oc_grammar::taking::next;
 use oc_headings::parts::{Part, next_part};
 use oc_lexer::Token;
-use oc_tree::Spot;
-use oc_tree::parsed::Program;
+use oc_source::Spot;
+use oc_source::parsed::Program;
 use oc_values::{Items, NoMemory};
 use std::alloc::Global;
 

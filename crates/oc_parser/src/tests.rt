@@ -1,6 +1,6 @@
 use super::*;
 use oc_lexer::lex;
-use oc_tree::parsed::*;
+use oc_source::parsed::*;
 use oc_values::{Boxed, Items, Name};
 use std::alloc::{AllocError, Global};
 use std::process::Abort;

@@ -1,6 +1,6 @@
 -- The steps of the calls that read a block.
 use Rattle.std.proofs.Common.{◌≡◌, List, [], ◌∷◌, ◌++◌, refl, ◌∙◌, append_assoc, subst}
-use Rattle.oc_tree.specs.declared.parsed.Stmt.{Stmt}
+use Rattle.oc_source.specs.declared.parsed.Stmt.{Stmt}
 use Rattle.oc_lexer.specs.declared.token.Token.{Token}
 use Rattle.oc_lexer.specs.declared.token.TokenKind.TheVariants.{Keyword, Sign}
 use Rattle.oc_lexer.specs.declared.token.Keyword.TheVariants as w

@@ -1,14 +1,14 @@
 -- What a call that is never gone on with leaves for an `else`.
 use Rattle.std.proofs.Common.{◌≡◌, List, Bool, true, false, Result, Ok, Err, IfOk, Bor, sym, ◌∙◌, ap}
-use Rattle.oc_tree.specs.declared.spot.Spot.{Spot}
-use Rattle.oc_tree.specs.declared.parsed.BaseName.{BaseName}
-use Rattle.oc_tree.specs.declared.parsed.Declared.{Declared}
-use Rattle.oc_tree.specs.declared.parsed.Stmt.{Stmt, fold-roll-Stmt}
-use Rattle.oc_tree.specs.declared.parsed.StmtNode.{StmtNode-F, fold-StmtNode, fold-roll-StmtNode}
-use Rattle.oc_tree.specs.declared.parsed.StmtNode.TheVariants as st
+use Rattle.oc_source.specs.declared.spot.Spot.{Spot}
+use Rattle.oc_source.specs.declared.parsed.BaseName.{BaseName}
+use Rattle.oc_source.specs.declared.parsed.Declared.{Declared}
+use Rattle.oc_source.specs.declared.parsed.Stmt.{Stmt, fold-roll-Stmt}
+use Rattle.oc_source.specs.declared.parsed.StmtNode.{StmtNode-F, fold-StmtNode, fold-roll-StmtNode}
+use Rattle.oc_source.specs.declared.parsed.StmtNode.TheVariants as st
 use Rattle.oc_lexer.specs.declared.token.Token.{Token}
 use Rattle.oc_grammar.specs.declared.ParseError.{ParseError}
-use Rattle.oc_tree.specs.Parsed.{stmt}
+use Rattle.oc_source.specs.Parsed.{stmt}
 use Rattle.oc_grammar.specs.Reading.{Found, Refused, Leaves, Any, then}
 use Rattle.oc_grammar.specs.Calls.{Reads}
 use Rattle.oc_grammar.specs.Statements.{Closed}

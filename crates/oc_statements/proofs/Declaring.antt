@@ -1,15 +1,15 @@
 -- The steps of the calls that read declarations.
 use Rattle.std.proofs.Common.{List, [], ◌∷◌, ◌++◌, Some, None, arith, append-nil, append_assoc}
-use Rattle.oc_tree.specs.declared.parsed.BaseName.{BaseName}
-use Rattle.oc_tree.specs.declared.parsed.FieldDef.{FieldDef}
-use Rattle.oc_tree.specs.declared.parsed.Declared.{Declared}
-use Rattle.oc_tree.specs.declared.parsed.Expr.{Expr}
-use Rattle.oc_tree.specs.declared.parsed.StmtNode.TheVariants as st
+use Rattle.oc_source.specs.declared.parsed.BaseName.{BaseName}
+use Rattle.oc_source.specs.declared.parsed.FieldDef.{FieldDef}
+use Rattle.oc_source.specs.declared.parsed.Declared.{Declared}
+use Rattle.oc_source.specs.declared.parsed.Expr.{Expr}
+use Rattle.oc_source.specs.declared.parsed.StmtNode.TheVariants as st
 use Rattle.oc_lexer.specs.declared.token.Token.{Token}
 use Rattle.oc_lexer.specs.declared.token.TokenKind.TheVariants.{Name, Sign}
 use Rattle.oc_lexer.specs.declared.token.Sign.TheVariants as s
 use Rattle.oc_grammar.specs.Tokens.{Starts, NotNext}
-use Rattle.oc_tree.specs.Parsed.{stmt, field, declared}
+use Rattle.oc_source.specs.Parsed.{stmt, field, declared}
 use Rattle.oc_grammar.specs.Reading.{SameNext, Found, Refused, Leaves, Any, End, Then, then, Maybe, stays, goes}
 use Rattle.oc_grammar.specs.Calls.{One}
 use Rattle.oc_grammar.specs.WrittenTypes.{Declr, declr, no_star, star, no_dim, Commas, last, more}

@@ -1,10 +1,10 @@
 -- The steps of the calls that read what stands before the parts of a statement.
 use Rattle.std.proofs.Common.{◌≡◌, List, [], ◌∷◌, ◌++◌, Option, Some, None, true, false, refl, sym, ◌∙◌, ap, append-nil, append_assoc, subst}
-use Rattle.oc_tree.specs.declared.parsed.BaseName.{BaseName}
-use Rattle.oc_tree.specs.declared.parsed.Declared.{Declared}
-use Rattle.oc_tree.specs.declared.parsed.Expr.{Expr}
-use Rattle.oc_tree.specs.declared.parsed.ForInit.{ForInit}
-use Rattle.oc_tree.specs.declared.parsed.ForInit.TheVariants as init
+use Rattle.oc_source.specs.declared.parsed.BaseName.{BaseName}
+use Rattle.oc_source.specs.declared.parsed.Declared.{Declared}
+use Rattle.oc_source.specs.declared.parsed.Expr.{Expr}
+use Rattle.oc_source.specs.declared.parsed.ForInit.{ForInit}
+use Rattle.oc_source.specs.declared.parsed.ForInit.TheVariants as init
 use Rattle.oc_lexer.specs.declared.token.Token.{Token}
 use Rattle.oc_lexer.specs.declared.token.TokenKind.{TokenKind}
 use Rattle.oc_lexer.specs.declared.token.TokenKind.TheVariants.{Name, Sign}

@@ -1,9 +1,9 @@
 -- The steps of the call that reads a declaration or a statement.
 use Rattle.std.proofs.Common.{◌≡◌, List, [], ◌∷◌, ◌++◌, true, ◌⊎◌, inl, inr, refl, sym, ◌∙◌, ap, append_assoc, subst}
-use Rattle.oc_tree.specs.declared.parsed.BaseName.{BaseName}
-use Rattle.oc_tree.specs.declared.parsed.Declared.{Declared}
-use Rattle.oc_tree.specs.declared.parsed.Stmt.{Stmt}
-use Rattle.oc_tree.specs.declared.parsed.StmtNode.TheVariants as st
+use Rattle.oc_source.specs.declared.parsed.BaseName.{BaseName}
+use Rattle.oc_source.specs.declared.parsed.Declared.{Declared}
+use Rattle.oc_source.specs.declared.parsed.Stmt.{Stmt}
+use Rattle.oc_source.specs.declared.parsed.StmtNode.TheVariants as st
 use Rattle.oc_lexer.specs.declared.token.Token.{Token}
 use Rattle.oc_lexer.specs.declared.token.TokenKind.{TokenKind}
 use Rattle.oc_lexer.specs.declared.token.TokenKind.TheVariants.{Keyword}
@@ -11,7 +11,7 @@ use Rattle.oc_lexer.specs.declared.token.Keyword.TheVariants as w
 use Rattle.oc_grammar.specs.declared.tables.Opening.TheVariants as o
 use Rattle.oc_grammar.specs.Tokens.{Is, Starts, NotNext, spot_at}
 use Rattle.oc_grammar.specs.Tables.{opening}
-use Rattle.oc_tree.specs.Parsed.{stmt}
+use Rattle.oc_source.specs.Parsed.{stmt}
 use Rattle.oc_grammar.specs.Reading.{SameNext, Found, Refused, Leaves, Then, then, By, first}
 use Rattle.oc_grammar.specs.Calls.{One, one}
 use Rattle.oc_grammar.specs.WrittenTypes.{Base}

@@ -1,14 +1,14 @@
 -- Shapes: what is left of a statement after its first tokens.
 use Rattle.std.specs.Prelude.{◌≡◌, ℕ, List, [], ◌∷◌, ◌++◌, Bool, true, false, Option, Some, None}
-use Rattle.oc_tree.specs.declared.spot.Spot.{Spot}
-use Rattle.oc_tree.specs.declared.parsed.BaseName.{BaseName}
-use Rattle.oc_tree.specs.declared.parsed.FieldDef.{FieldDef}
-use Rattle.oc_tree.specs.declared.parsed.Declared.{Declared}
-use Rattle.oc_tree.specs.declared.parsed.Expr.{Expr}
-use Rattle.oc_tree.specs.declared.parsed.Stmt.{Stmt}
-use Rattle.oc_tree.specs.declared.parsed.StmtNode.{StmtNode}
-use Rattle.oc_tree.specs.declared.parsed.StmtNode.TheVariants as st
-use Rattle.oc_tree.specs.declared.parsed.ForInit.{ForInit}
+use Rattle.oc_source.specs.declared.spot.Spot.{Spot}
+use Rattle.oc_source.specs.declared.parsed.BaseName.{BaseName}
+use Rattle.oc_source.specs.declared.parsed.FieldDef.{FieldDef}
+use Rattle.oc_source.specs.declared.parsed.Declared.{Declared}
+use Rattle.oc_source.specs.declared.parsed.Expr.{Expr}
+use Rattle.oc_source.specs.declared.parsed.Stmt.{Stmt}
+use Rattle.oc_source.specs.declared.parsed.StmtNode.{StmtNode}
+use Rattle.oc_source.specs.declared.parsed.StmtNode.TheVariants as st
+use Rattle.oc_source.specs.declared.parsed.ForInit.{ForInit}
 use Rattle.oc_lexer.specs.declared.token.Token.{Token}
 use Rattle.oc_lexer.specs.declared.token.TokenKind.{TokenKind}
 use Rattle.oc_lexer.specs.declared.token.TokenKind.TheVariants.{Keyword, Sign}
@@ -16,7 +16,7 @@ use Rattle.oc_lexer.specs.declared.token.Keyword.TheVariants as w
 use Rattle.oc_lexer.specs.declared.token.Sign.TheVariants as s
 use Rattle.oc_grammar.specs.Tokens.{Is, NotNext, spot_at}
 use Rattle.oc_grammar.specs.Tables.{opening}
-use Rattle.oc_tree.specs.Parsed.{stmt, declared}
+use Rattle.oc_source.specs.Parsed.{stmt, declared}
 use Rattle.oc_grammar.specs.Reading.{End, Then, By, Maybe}
 use Rattle.oc_grammar.specs.Calls.{One, ANamed, Placed}
 use Rattle.oc_grammar.specs.WrittenTypes.{Commas}

@@ -13,7 +13,7 @@ use oc_expressions::expressions::expr;
 use oc_grammar::ParseError;
 use oc_grammar::taking::{eat, expect};
 use oc_lexer::{Sign, Token};
-use oc_tree::parsed::{BaseName, Declared, Stmt, StmtNode};
+use oc_source::parsed::{BaseName, Declared, Stmt, StmtNode};
 use oc_values::{Boxed, Items};
 use std::alloc::Global;
 

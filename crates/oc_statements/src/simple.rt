@@ -6,7 +6,7 @@ ghost use Rattle.oc_grammar.specs.Reading.{Any};
 ghost use Rattle.oc_grammar.specs.Calls.{Reads};
 ghost use Rattle.oc_grammar.specs.Tables.{strength};
 ghost use Rattle.oc_expressions.specs.Parts.{begins};
-ghost use Rattle.oc_tree.specs.Parsed.{stmt};
+ghost use Rattle.oc_source.specs.Parsed.{stmt};
 ghost use Rattle.oc_grammar.specs.Statements.{Condition, Perhaps, Init};
 ghost use Rattle.oc_statements.specs.Shapes.{Simple as SimpleStatement, header_form, name_form};
 
@@ -18,8 +18,8 @@ use oc_expressions::signs::begins_type;
 use oc_grammar::ParseError;
 use oc_grammar::taking::{eat, expect, name, next};
 use oc_lexer::{Sign, Token};
-use oc_tree::Spot;
-use oc_tree::parsed::{Expr, ForInit, Stmt, StmtNode};
+use oc_source::Spot;
+use oc_source::parsed::{Expr, ForInit, Stmt, StmtNode};
 use oc_values::{Boxed, Name};
 use std::alloc::{AllocError, Global};
 

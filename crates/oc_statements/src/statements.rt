@@ -4,7 +4,7 @@ ghost use Rattle.std.specs.Prelude.{◌≡◌, ◌<◌, ◌≤◌, [], length, I
 ghost use Rattle.oc_grammar.specs.Reading.{Any};
 ghost use Rattle.oc_grammar.specs.Calls.{Reads};
 ghost use Rattle.oc_grammar.specs.Statements.{Statement, Closed, Block};
-ghost use Rattle.oc_tree.specs.Parsed.{stmt};
+ghost use Rattle.oc_source.specs.Parsed.{stmt};
 ghost use Rattle.oc_statements.specs.Shapes.{if_node, if_after, while_after, for_after, always_after, Run, Step};
 
 use crate::declarations::declare;
@@ -15,8 +15,8 @@ use oc_expressions::signs::begins_type;
 use oc_grammar::ParseError;
 use oc_grammar::taking::{eat, eat_word, expect, expect_word, next, next_spot};
 use oc_lexer::{Keyword, Sign, Token};
-use oc_tree::Spot;
-use oc_tree::parsed::{Expr, Stmt, StmtNode};
+use oc_source::Spot;
+use oc_source::parsed::{Expr, Stmt, StmtNode};
 use oc_values::{Boxed, Items};
 use std::alloc::{AllocError, Global};
 

@@ -1,9 +1,1 @@
-pub mod Joined
-pub mod Lengths
-pub mod Freezing
-pub mod Equal
-pub mod Normal
-pub mod Growing
 pub mod Sample
-pub mod Updates
-pub mod Views

@@ -4,8 +4,8 @@ use Rattle.std.specs.Prelude.{codes}
 use Rattle.std.specs.Fmt.{digits}
 use Rattle.oc_values.specs.declared.integers.IntKind.TheVariants.{I32, I64}
 use Rattle.oc_values.specs.declared.integers.BinaryOp.TheVariants.{Add}
-use Rattle.oc_tree.specs.declared.spot.Spot.{Spot}
-use Rattle.oc_tree.specs.declared.types.CType.{CType, Int, Pointer', Nothing, more_of-CType, end_of-CType}
+use Rattle.oc_source.specs.declared.spot.Spot.{Spot}
+use Rattle.oc_cells.specs.declared.types.CType.{CType, Int, Pointer', Nothing, more_of-CType, end_of-CType}
 use Rattle.oc_tree.specs.declared.typed.TExpr.{TExpr}
 use Rattle.oc_tree.specs.declared.typed.ExprNode.{Number, Read', AddressOf', Binary', Builtin', Row_of-TExpr, end_of-TExpr, more_of-TExpr}
 use Rattle.oc_tree.specs.declared.typed.PlaceNode.{Slot}
@@ -16,7 +16,7 @@ use Rattle.oc_tree.specs.declared.typed.StmtNode.TheVariants.{Declare, Express}
 use Rattle.oc_tree.specs.declared.typed.TypedFunction.{TypedFunction}
 use Rattle.oc_tree.specs.declared.run.ShownItem.TheVariants.{Print as Printed, Reveal as Revealed}
 use Rattle.oc_tree.specs.declared.outcome.Outcome.TheVariants.{Done, Trap}
-use Rattle.oc_tree.specs.declared.outcome.TrapKind.TheVariants.{I1}
+use Rattle.oc_cells.specs.declared.trap.TrapKind.TheVariants.{I1}
 use Rattle.oc_tree.specs.declared.program.Typed.{Typed}
 use Rattle.oc_tree.specs.Typing.{is_typed}
 use Rattle.oc_tree.specs.Clear.{Clear}

@@ -1,10 +1,3 @@
-pub mod Types
-pub mod Laws
-pub mod Layout
-pub mod Memory
-pub mod Literals
-pub mod Parsed
-pub mod Joined
 pub mod Typing
 pub mod Domain
 pub mod Walking

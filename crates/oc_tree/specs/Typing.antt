@@ -6,8 +6,8 @@ use Rattle.oc_values.specs.declared.integers.IntKind.TheVariants.{I32, U32, I64,
 use Rattle.oc_values.specs.declared.integers.BinaryOp.{BinaryOp}
 use Rattle.oc_values.specs.declared.integers.BinaryOp.TheVariants.{Add, Sub}
 use Rattle.oc_values.specs.Integers.{is_signed, width, is_in_bits}
-use Rattle.oc_tree.specs.declared.types.CType.{CType, Int, Pointer', Nothing, more_of-CType, end_of-CType}
-use Rattle.oc_tree.specs.declared.types.SlotType.{SlotType}
+use Rattle.oc_cells.specs.declared.types.CType.{CType, Int, Pointer', Nothing, more_of-CType, end_of-CType}
+use Rattle.oc_cells.specs.declared.types.SlotType.{SlotType}
 use Rattle.oc_tree.specs.declared.typed.TExpr.{TExpr}
 use Rattle.oc_tree.specs.declared.typed.ExprNode.{ExprNode, Number, Read', AddressOf', Binary', Builtin', Row_of-TExpr, end_of-TExpr, more_of-TExpr}
 use Rattle.oc_tree.specs.declared.typed.PlaceNode.{PlaceNode, Slot, Deref'}
@@ -19,7 +19,7 @@ use Rattle.oc_tree.specs.declared.typed.Stmt.{Stmt}
 use Rattle.oc_tree.specs.declared.typed.StmtNode.{StmtNode}
 use Rattle.oc_tree.specs.declared.typed.StmtNode.TheVariants.{Declare, Express}
 use Rattle.oc_tree.specs.declared.typed.TypedFunction.{TypedFunction}
-use Rattle.oc_tree.specs.Types.{same, same_row, same_kind}
+use Rattle.oc_cells.specs.Types.{same, same_row, same_kind}
 
 -- what an operator takes after promotion: 32 or 64 bits
 abbrev pub is_promoted : IntKind → Bool

@@ -4,15 +4,15 @@
 -- which is M2: no well typed tree meets either.
 use Rattle.std.specs.Prelude.{ℕ, ℤ, List, [], ◌∷◌, ◌++◌, Option, Some, None, true, false}
 use Rattle.std.specs.Fmt.{signed_decimal}
-use Rattle.oc_tree.specs.declared.spot.Spot.{Spot}
-use Rattle.oc_tree.specs.declared.types.CType.{CType, Int as CInt, Pointer'}
-use Rattle.oc_tree.specs.declared.memory.Address.{Address}
-use Rattle.oc_tree.specs.declared.memory.Address.TheVariants.{Null, At}
-use Rattle.oc_tree.specs.declared.memory.CellValue.{CellValue}
-use Rattle.oc_tree.specs.declared.memory.CellValue.TheVariants.{Int as CellInt, Pointer as CellPointer, Hidden as CellHidden}
+use Rattle.oc_source.specs.declared.spot.Spot.{Spot}
+use Rattle.oc_cells.specs.declared.types.CType.{CType, Int as CInt, Pointer'}
+use Rattle.oc_cells.specs.declared.memory.Address.{Address}
+use Rattle.oc_cells.specs.declared.memory.Address.TheVariants.{Null, At}
+use Rattle.oc_cells.specs.declared.memory.CellValue.{CellValue}
+use Rattle.oc_cells.specs.declared.memory.CellValue.TheVariants.{Int as CellInt, Pointer as CellPointer, Hidden as CellHidden}
 use Rattle.oc_tree.specs.declared.run.Value.{Value}
 use Rattle.oc_tree.specs.declared.run.Value.TheVariants.{Int, Pointer, Hidden, Nothing}
-use Rattle.oc_tree.specs.declared.outcome.TrapKind.TheVariants.{M2, M3, M5}
+use Rattle.oc_cells.specs.declared.trap.TrapKind.TheVariants.{M2, M3, M5}
 use Rattle.oc_tree.specs.declared.typed.PrintPiece.{PrintPiece}
 use Rattle.oc_tree.specs.declared.typed.PrintPiece.TheVariants.{Text, Decimal}
 use Rattle.oc_tree.specs.Walking.{Mem, State, Act, bind, pure, trap, loads, stores, block_of}

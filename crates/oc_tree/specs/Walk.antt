@@ -6,19 +6,19 @@ use Rattle.std.specs.Prelude.{ℕ, zero, suc, ◌-◌, ℤ, pos, negsuc, List, [
 use Rattle.oc_values.specs.declared.integers.IntKind.{IntKind}
 use Rattle.oc_values.specs.declared.integers.BinaryOp.{BinaryOp}
 use Rattle.oc_values.specs.Integers.{operate, width}
-use Rattle.oc_tree.specs.declared.spot.Spot.{Spot}
-use Rattle.oc_tree.specs.declared.types.CType.{CType, Int as CInt}
-use Rattle.oc_tree.specs.declared.types.SlotType.{SlotType}
-use Rattle.oc_tree.specs.declared.memory.Address.{Address}
-use Rattle.oc_tree.specs.declared.memory.Address.TheVariants.{At}
-use Rattle.oc_tree.specs.declared.memory.CellValue.TheVariants.{Int as CellInt}
+use Rattle.oc_source.specs.declared.spot.Spot.{Spot}
+use Rattle.oc_cells.specs.declared.types.CType.{CType, Int as CInt}
+use Rattle.oc_cells.specs.declared.types.SlotType.{SlotType}
+use Rattle.oc_cells.specs.declared.memory.Address.{Address}
+use Rattle.oc_cells.specs.declared.memory.Address.TheVariants.{At}
+use Rattle.oc_cells.specs.declared.memory.CellValue.TheVariants.{Int as CellInt}
 use Rattle.oc_tree.specs.declared.run.Value.{Value}
 use Rattle.oc_tree.specs.declared.run.Value.TheVariants.{Int, Pointer, Hidden, Nothing}
 use Rattle.oc_tree.specs.declared.run.Source.{Source}
 use Rattle.oc_tree.specs.declared.run.Source.TheVariants.{Word, Shared}
 use Rattle.oc_tree.specs.declared.run.Flow.{Flow}
 use Rattle.oc_tree.specs.declared.run.Flow.TheVariants.{Next}
-use Rattle.oc_tree.specs.declared.outcome.TrapKind.TheVariants.{I1, M2}
+use Rattle.oc_cells.specs.declared.trap.TrapKind.TheVariants.{I1, M2}
 use Rattle.oc_tree.specs.declared.typed.TExpr.{TExpr}
 use Rattle.oc_tree.specs.declared.typed.ExprNode.{ExprNode, Number, Read', AddressOf', Binary', Builtin', Row_of-TExpr, end_of-TExpr, more_of-TExpr}
 use Rattle.oc_tree.specs.declared.typed.PlaceNode.{PlaceNode, Slot, Deref'}
@@ -30,7 +30,7 @@ use Rattle.oc_tree.specs.declared.typed.StmtNode.{StmtNode}
 use Rattle.oc_tree.specs.declared.typed.StmtNode.TheVariants.{Declare, Express}
 use Rattle.oc_tree.specs.declared.typed.TypedFunction.{TypedFunction}
 use Rattle.oc_tree.specs.declared.program.Typed.{Typed}
-use Rattle.oc_tree.specs.Layout.{leaves}
+use Rattle.oc_cells.specs.Layout.{leaves}
 use Rattle.oc_tree.specs.Typing.{is_sum}
 use Rattle.oc_tree.specs.Domain.{Domain}
 use Rattle.oc_tree.specs.Values.{wrong, reads, initializes, constant, follows, slot, formatted}

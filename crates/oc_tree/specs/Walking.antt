@@ -1,16 +1,16 @@
 -- What every walk has: its state, its stops, how one action follows another, and the actions on memory, steps and slots.
 use Rattle.std.specs.Prelude.{ℕ, zero, suc, ◌+◌, ◌-◌, ℤ, List, [], ◌∷◌, length, Option, Some, None, Result, Ok, Err, nat_eq, nat_le, if◌then◌else◌, Bool, true, false}
 use Rattle.oc_values.specs.declared.integers.IntKind.{IntKind}
-use Rattle.oc_tree.specs.declared.spot.Spot.{Spot}
-use Rattle.oc_tree.specs.declared.types.CType.{CType}
-use Rattle.oc_tree.specs.declared.memory.Address.{Address}
-use Rattle.oc_tree.specs.declared.memory.CellValue.{CellValue}
-use Rattle.oc_tree.specs.declared.memory.Block.{Block}
-use Rattle.oc_tree.specs.declared.outcome.TrapKind.{TrapKind}
+use Rattle.oc_source.specs.declared.spot.Spot.{Spot}
+use Rattle.oc_cells.specs.declared.types.CType.{CType}
+use Rattle.oc_cells.specs.declared.memory.Address.{Address}
+use Rattle.oc_cells.specs.declared.memory.CellValue.{CellValue}
+use Rattle.oc_cells.specs.declared.memory.Block.{Block}
+use Rattle.oc_cells.specs.declared.trap.TrapKind.{TrapKind}
 use Rattle.oc_tree.specs.declared.outcome.Outcome.{Outcome}
 use Rattle.oc_tree.specs.declared.outcome.Outcome.TheVariants.{Trap, StepsSpent, DealtSpent}
 use Rattle.oc_tree.specs.declared.run.Named.{Named}
-use Rattle.oc_tree.specs.Memory.{load, store, make, ended}
+use Rattle.oc_cells.specs.Memory.{load, store, make, ended}
 
 -- how many cells may live
 abbrev pub live_limit : ℕ

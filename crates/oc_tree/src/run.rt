@@ -1,7 +1,7 @@
 //! What a run works on, and what it shows.
 
-use crate::memory::Address;
-use crate::spot::Spot;
+use oc_cells::Address;
+use oc_source::Spot;
 use oc_values::{IntKind, Items, Name};
 
 /// The value of an expression. `H` is what a hidden integer is to the run.

@@ -1,7 +1,7 @@
 //! The typed tree.
 
-use crate::spot::Spot;
-use crate::types::{CType, SlotType};
+use oc_cells::{CType, SlotType};
+use oc_source::Spot;
 use oc_values::{BinaryOp, Boxed, IntKind, Items, Name};
 
 /// An expression with its type.

@@ -7,9 +7,14 @@
 
 pub mod integers;
 pub mod lists;
+pub mod shared;
 
-pub use integers::{BinaryOp, IntKind, ZeroDivisor, add, convert, public_op, subtract, wrap};
+pub use integers::{
+    BinaryOp, IntKind, OneOp, ZeroDivisor, add, convert, operate, operate_one, promoted, public_op,
+    same_kind, subtract, wrap,
+};
 pub use lists::{Boxed, Items, Name, NoMemory};
+pub use shared::Shared;
 
 #[cfg(test)]
 mod tests;

@@ -1,4 +1,4 @@
-use Rattle.oc_tree.specs.Layout.{leaves}
+use Rattle.oc_cells.specs.Layout.{leaves}
 use Rattle.block_memory.proofs.Growing.{copies_step, all_copies}
 use Rattle.block_memory.proofs.blocks.push_copies.Goals as goal
 

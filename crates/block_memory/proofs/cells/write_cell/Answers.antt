@@ -1,5 +1,5 @@
 use Rattle.std.proofs.Common.{sym}
-use Rattle.oc_tree.specs.Memory.{written}
+use Rattle.oc_cells.specs.Memory.{written}
 use Rattle.block_memory.proofs.Writes.{update_past}
 use Rattle.block_memory.proofs.cells.write_cell.Goals as goal
 

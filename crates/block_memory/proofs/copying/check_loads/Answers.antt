@@ -1,6 +1,6 @@
 use Rattle.std.proofs.Common.{◌∙◌, ap, sym, ◌<◌, ◌≤◌, subst}
 use Rattle.std.specs.Option.{option_copied}
-use Rattle.oc_tree.specs.Layout.{leaves}
+use Rattle.oc_cells.specs.Layout.{leaves}
 use Rattle.block_memory.proofs.Copies.{loads_from_start, load_passes, load_fails, load_traps, loads_end, get_is_some}
 use Rattle.block_memory.proofs.copying.check_loads.Goals as goal
 use Rattle.block_memory.proofs.copying.check_loads.Goals.{in-Some+in-Ok+else-not-fits_type, in_default}

@@ -1,6 +1,6 @@
 use Rattle.std.proofs.Common.{◌≡◌, length, drop}
-use Rattle.oc_tree.specs.Layout.{leaves}
-use Rattle.oc_tree.specs.Memory.{loadable}
+use Rattle.oc_cells.specs.Layout.{leaves}
+use Rattle.oc_cells.specs.Memory.{loadable}
 use Rattle.block_memory.specs.Content.{ahead}
 use Rattle.block_memory.proofs.copying.check_loads.Given as goal
 

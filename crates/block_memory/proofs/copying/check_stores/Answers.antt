@@ -1,6 +1,6 @@
 use Rattle.std.proofs.Common.{◌∙◌, ap, sym, ◌<◌, ◌≤◌, subst}
 use Rattle.std.specs.Option.{option_copied}
-use Rattle.oc_tree.specs.Layout.{leaves}
+use Rattle.oc_cells.specs.Layout.{leaves}
 use Rattle.block_memory.proofs.Copies.{stores_from_start, store_passes, store_fails, store_traps, stores_end, get_is_some}
 use Rattle.block_memory.proofs.copying.check_stores.Goals as goal
 use Rattle.block_memory.proofs.copying.check_stores.Goals.{in-Some+in-Ok+else-not-same_type, in_default}

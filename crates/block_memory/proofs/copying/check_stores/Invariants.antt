@@ -1,6 +1,6 @@
 use Rattle.std.proofs.Common.{◌≡◌, length, drop}
-use Rattle.oc_tree.specs.Layout.{leaves}
-use Rattle.oc_tree.specs.Memory.{all_storable}
+use Rattle.oc_cells.specs.Layout.{leaves}
+use Rattle.oc_cells.specs.Memory.{all_storable}
 use Rattle.block_memory.specs.Content.{ahead}
 use Rattle.block_memory.proofs.copying.check_stores.Given as goal
 

@@ -1,5 +1,5 @@
 use Rattle.std.proofs.Common.{◌≡◌, ◌-◌}
-use Rattle.oc_tree.specs.Memory.{copied}
+use Rattle.oc_cells.specs.Memory.{copied}
 use Rattle.block_memory.specs.Content.{ahead}
 use Rattle.block_memory.proofs.copying.copy_all.Given as goal
 

@@ -1,4 +1,4 @@
-use Rattle.oc_tree.specs.Layout.{leaves}
+use Rattle.oc_cells.specs.Layout.{leaves}
 use Rattle.block_memory.proofs.Growing.{copies_step, array_blanks}
 use Rattle.block_memory.proofs.layout.+push_blanks.Goals as goal
 

@@ -1,6 +1,6 @@
 use Rattle.std.proofs.Common.{◌≡◌, ◌++◌}
-use Rattle.oc_tree.specs.Layout.{leaves, repeated}
-use Rattle.oc_tree.specs.Memory.{blanks}
+use Rattle.oc_cells.specs.Layout.{leaves, repeated}
+use Rattle.oc_cells.specs.Memory.{blanks}
 use Rattle.block_memory.proofs.layout.+push_blanks.Given as goal
 
 abbrev pub invariant-loop : goal.invariant-loop

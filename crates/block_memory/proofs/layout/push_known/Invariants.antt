@@ -1,5 +1,5 @@
 use Rattle.std.proofs.Common.{◌≡◌, ◌++◌, take}
-use Rattle.oc_tree.specs.Memory.{blanks}
+use Rattle.oc_cells.specs.Memory.{blanks}
 use Rattle.block_memory.proofs.layout.push_known.Given as goal
 
 abbrev pub invariant-loop-leaf : goal.invariant-loop-leaf

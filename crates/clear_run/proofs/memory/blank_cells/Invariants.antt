@@ -1,5 +1,5 @@
 use Rattle.std.proofs.Common.{◌≡◌, take}
-use Rattle.oc_tree.specs.Memory.{blanks}
+use Rattle.oc_cells.specs.Memory.{blanks}
 use Rattle.clear_run.specs.Runs.{zero_of}
 use Rattle.clear_run.proofs.memory.blank_cells.Given as goal
 

@@ -1,5 +1,5 @@
 use Rattle.std.proofs.Common.{◌≡◌, ◌≤◌, ◌*◌, ◌^◌, take}
-use Rattle.oc_tree.specs.Memory.{living}
+use Rattle.oc_cells.specs.Memory.{living}
 use Rattle.clear_run.proofs.memory.count_living.Given as goal
 
 abbrev pub invariant-loop-block : goal.invariant-loop-block

@@ -1,7 +1,7 @@
 use Rattle.std.proofs.Common.{ap, ◌∙◌, Some}
-use Rattle.oc_tree.specs.declared.memory.Block.TheVariants.{Live, Gone}
-use Rattle.oc_tree.specs.Memory.{update, written, in_live}
-use Rattle.oc_tree.proofs.Updates.{set_update, set_twice}
+use Rattle.oc_cells.specs.declared.memory.Block.TheVariants.{Live, Gone}
+use Rattle.oc_cells.specs.Memory.{update, written, in_live}
+use Rattle.oc_cells.proofs.Updates.{set_update, set_twice}
 use Rattle.clear_run.proofs.memory.put_cell.Goals as goal
 
 pub returns-in-Live : goal.returns-in-Live

@@ -1,5 +1,5 @@
 use Rattle.std.proofs.Common.{◌∷◌, [], sym, ap, ◌∙◌}
-use Rattle.oc_tree.specs.declared.parsed.StmtNode.TheVariants as st
+use Rattle.oc_source.specs.declared.parsed.StmtNode.TheVariants as st
 use Rattle.first_form.proofs.Statements.{by_node, only_one}
 use Rattle.first_form.proofs.item.item.Goals as goal
 

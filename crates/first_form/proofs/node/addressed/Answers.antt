@@ -1,5 +1,5 @@
 use Rattle.std.proofs.Common.{ap, ◌∙◌}
-use Rattle.oc_tree.specs.declared.parsed.ExprNode.TheVariants as e
+use Rattle.oc_source.specs.declared.parsed.ExprNode.TheVariants as e
 use Rattle.first_form.proofs.Forms.{addressed}
 use Rattle.first_form.proofs.node.addressed.Goals as goal
 

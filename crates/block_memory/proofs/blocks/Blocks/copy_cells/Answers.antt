@@ -1,6 +1,6 @@
 use Rattle.std.proofs.Common.{ap, sym, subst, ◌∙◌, ◌≤◌, length}
-use Rattle.oc_tree.specs.Layout.{leaves}
-use Rattle.oc_tree.specs.Memory.{living, AllHaveForm, copied}
+use Rattle.oc_cells.specs.Layout.{leaves}
+use Rattle.oc_cells.specs.Memory.{living, AllHaveForm, copied}
 use Rattle.block_memory.proofs.Writes.{living_copied}
 use Rattle.block_memory.proofs.Sizes.{sized}
 use Rattle.block_memory.proofs.Formed.{form_copied}

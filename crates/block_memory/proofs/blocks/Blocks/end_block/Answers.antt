@@ -1,6 +1,6 @@
 use Rattle.std.proofs.Common.{◌≡◌, ◌+◌, ◌-◌, ◌≤◌, ℕ, ◌∙◌, ap, sym, subst, arith, refl, slice_set}
-use Rattle.oc_tree.specs.declared.memory.Block.TheVariants.{Gone}
-use Rattle.oc_tree.specs.Memory.{living, AllHaveForm}
+use Rattle.oc_cells.specs.declared.memory.Block.TheVariants.{Gone}
+use Rattle.oc_cells.specs.Memory.{living, AllHaveForm}
 use Rattle.block_memory.proofs.Living.{living_ended, set_gone}
 use Rattle.block_memory.proofs.Formed.{form_ended}
 use Rattle.block_memory.proofs.blocks.Blocks.end_block.Goals as goal

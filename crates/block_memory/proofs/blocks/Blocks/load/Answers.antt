@@ -1,6 +1,6 @@
 use Rattle.std.proofs.Common.{◌∙◌, ap, sym, subst}
 use Rattle.std.specs.Prelude.{IfOk}
-use Rattle.oc_tree.specs.Memory.{HasForm, AllHaveForm}
+use Rattle.oc_cells.specs.Memory.{HasForm, AllHaveForm}
 use Rattle.block_memory.proofs.Accesses.{loaded, misfit}
 use Rattle.block_memory.proofs.Formed.{form_loaded}
 use Rattle.block_memory.proofs.blocks.Blocks.load.Goals as goal

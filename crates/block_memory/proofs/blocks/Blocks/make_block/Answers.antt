@@ -1,13 +1,13 @@
 use Rattle.std.proofs.Common.{◌≡◌, ap, sym, subst, refl, ◌∙◌, ◌+◌, ◌*◌, ◌≤◌, ◌<◌, ◌^◌, length, ℕ, max, nat_le, nat_lt, List, [], ◌∷◌, ◌++◌, Bool, Ok}
 use Rattle.std.specs.Prelude.{◌&&◌}
 use Rattle.std.proofs.lemmas.Int.{to_z-of_z}
-use Rattle.oc_tree.specs.Layout.{leaves, repeated}
-use Rattle.oc_tree.specs.declared.types.CType.{CType}
-use Rattle.oc_tree.specs.declared.memory.Block.{Block}
-use Rattle.oc_tree.specs.declared.memory.Block.TheVariants.{Live}
-use Rattle.oc_tree.specs.declared.memory.Cell.{Cell}
+use Rattle.oc_cells.specs.Layout.{leaves, repeated}
+use Rattle.oc_cells.specs.declared.types.CType.{CType}
+use Rattle.oc_cells.specs.declared.memory.Block.{Block}
+use Rattle.oc_cells.specs.declared.memory.Block.TheVariants.{Live}
+use Rattle.oc_cells.specs.declared.memory.Cell.{Cell}
 use Rattle.oc_values.specs.declared.integers.IntKind.{IntKind}
-use Rattle.oc_tree.specs.Memory.{living, AllHaveForm, CellsHaveForm, blanks}
+use Rattle.oc_cells.specs.Memory.{living, AllHaveForm, CellsHaveForm, blanks}
 use Rattle.block_memory.specs.Content.{Memory}
 use Rattle.block_memory.proofs.Making.{too_many, no_room, with_room, more_live}
 use Rattle.block_memory.proofs.Sizes.{sized}

@@ -1,5 +1,5 @@
 use Rattle.std.proofs.Common.{ap, sym, subst, arith, rules}
-use Rattle.oc_tree.specs.Memory.{living, AllHaveForm}
+use Rattle.oc_cells.specs.Memory.{living, AllHaveForm}
 use Rattle.block_memory.specs.Content.{AllAreLeaves}
 use Rattle.block_memory.proofs.Leafy.{leafy_structs}
 use Rattle.block_memory.proofs.blocks.Blocks.new.Goals as goal

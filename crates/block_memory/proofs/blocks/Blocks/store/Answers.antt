@@ -1,5 +1,5 @@
 use Rattle.std.proofs.Common.{◌∙◌, ap, sym, subst, refl}
-use Rattle.oc_tree.specs.Memory.{living, AllHaveForm, put}
+use Rattle.oc_cells.specs.Memory.{living, AllHaveForm, put}
 use Rattle.block_memory.proofs.Accesses.{ahead_none, stored}
 use Rattle.block_memory.proofs.Writes.{living_put}
 use Rattle.block_memory.proofs.Formed.{form_put}
