@@ -17,6 +17,3 @@ mod tree;
 
 pub use ending::{first_form_ends, first_form_shows};
 pub use read::read_first;
-
-#[cfg(test)]
-mod tests;
