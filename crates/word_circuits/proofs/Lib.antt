@@ -17,3 +17,5 @@ pub mod Dividing
 pub mod Signing
 pub mod DividingPairs
 pub mod DividingPlays
+pub mod Turned
+pub mod Operating

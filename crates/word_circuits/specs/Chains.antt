@@ -73,3 +73,7 @@ other x d i = flip (get_or x i d) (λ z. give z)
 -- whether a word of w wires isn't 0, as a word of one wire
 abbrev pub to_bool_circuit : {W : Type 0} → ℕ → List W → W → Circuit W (List W)
 to_bool_circuit w x d = then (conjunction (other x d) w) (λ t. flip t (λ r. give (r ∷ [])))
+
+-- the other bit of the first wire of a word, as a word of one wire; d is for a wire that isn't there
+abbrev pub other_word : {W : Type 0} → W → List W → Circuit W (List W)
+other_word d x = flip (get_or x 0 d) (λ r. give (r ∷ []))

@@ -26,5 +26,5 @@ returns g c =
     let s = c.args.gates.now in
     let a : Carried _ = record { sums = c.chain-chained.result.0.items; carry = c.chain-chained.result.1 } in
     let right = subst (λ n. Plays m (turned signed n y high) s c.turned-right.result.items s) (sym c.requires.same) (c.turned-right.ensures.plays high) in
-    rw c.of_wire.ensures (Plays-less m signed w x y high c.turned-left.result.items c.turned-right.result.items c.flip_wires-flipped.result.items c.as_slice.result.now c.as_slice-2.result.now c.as_slice-3.result.now a s c.chain-chained.new.gates _
+    rw c.of_wire.ensures (Plays-less m signed w x y high c.turned-left.result.items c.turned-right.result.items c.flip_wires-flipped.result.items c.as_slice.result.now c.as_slice-2.result.now c.as_slice-3.result.now a s c.chain-chained.new.gates c.not.result
     c.known-one.ensures c.as_slice.ensures.value c.as_slice-2.ensures.value c.as_slice-3.ensures.value (c.turned-left.ensures.plays high) right (c.flip_wires-flipped.ensures.plays high) (c.chain-chained.ensures.plays high) c.not.ensures)
