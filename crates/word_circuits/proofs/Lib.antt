@@ -19,3 +19,4 @@ pub mod DividingPairs
 pub mod DividingPlays
 pub mod Turned
 pub mod Operating
+pub mod Knowing

@@ -6,3 +6,4 @@ pub mod Products
 pub mod Divisions
 pub mod Fragments
 pub mod Operators
+pub mod Known
