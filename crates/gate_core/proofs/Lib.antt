@@ -1,3 +1,4 @@
+pub mod Relating
 pub mod Playing
 pub mod Pairs
 pub mod Numbered

@@ -1,9 +1,9 @@
 -- Playing circuits, one after another and in loops: the state, the counts and the bits.
 use Rattle.std.proofs.Common.{◌≡◌, ℕ, zero, suc, ◌+◌, ◌*◌, ◌%◌, ◌^◌, ◌<◌, ◌≤◌, Bool, ◌&&◌, not, List, [], ◌∷◌, ◌++◌, length, refl, ap, ◌∙◌, sym, arith, subst, inl, inr, add-one}
 use Rattle.std.proofs.lemmas.List.{length_push}
-use Rattle.gate_core.specs.Circuit.{Circuit, Calls, then, times, row, Plays, truth, xor}
+use Rattle.gate_core.specs.Circuit.{Circuit, Calls, then, times, row, Plays, xor}
+use Rattle.gate_core.proofs.Relating.{truth, Same, Costs}
 use Rattle.gate_core.specs.Circuit.Circuit.{give, known, flip, join, meet}
-use Rattle.gate_core.specs.Relations.{Same, Costs}
 use Rattle.gate_core.specs.Laws.{Laws, Counts, Rises}
 
 -- a circuit and what follows it

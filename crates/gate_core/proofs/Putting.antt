@@ -68,17 +68,17 @@ list_in {S} {W} m (gate_known b ∷ gs) xs us ws h new vs s t p =
 list_in {S} {W} m (gate_not i ∷ gs) xs us ws h new vs s t p =
     let w = m.not_wire s p.0 in
     let r = one_more m (map (renumbered (number_in xs (length us))) gs) us ws new w vs s t (length gs)
-        (list_in m gs xs us ws h (new ++ w ∷ []) vs s t (subst (λ l. PlaysList m gs l s vs t) (append_assoc ws new (w ∷ [])) p.2)) in
+    (list_in m gs xs us ws h (new ++ w ∷ []) vs s t (subst (λ l. PlaysList m gs l s vs t) (append_assoc ws new (w ∷ [])) p.2)) in
     (r.0, r.1, r.2, (p.0, At-in us new ws xs i p.0 h p.1, r.3))
 list_in {S} {W} m (gate_xor i j ∷ gs) xs us ws h new vs s t p =
     let w = m.xor_wire s p.0 p.1 in
     let r = one_more m (map (renumbered (number_in xs (length us))) gs) us ws new w vs s t (length gs)
-        (list_in m gs xs us ws h (new ++ w ∷ []) vs s t (subst (λ l. PlaysList m gs l s vs t) (append_assoc ws new (w ∷ [])) p.4)) in
+    (list_in m gs xs us ws h (new ++ w ∷ []) vs s t (subst (λ l. PlaysList m gs l s vs t) (append_assoc ws new (w ∷ [])) p.4)) in
     (r.0, r.1, r.2, (p.0, p.1, At-in us new ws xs i p.0 h p.2, At-in us new ws xs j p.1 h p.3, r.3))
 list_in {S} {W} m (gate_and i j ∷ gs) xs us ws h new vs s t p =
     let w = p.2 in
     let r = one_more m (map (renumbered (number_in xs (length us))) gs) us ws new w vs p.3 t (length gs)
-        (list_in m gs xs us ws h (new ++ w ∷ []) vs p.3 t (subst (λ l. PlaysList m gs l p.3 vs t) (append_assoc ws new (w ∷ [])) p.7)) in
+    (list_in m gs xs us ws h (new ++ w ∷ []) vs p.3 t (subst (λ l. PlaysList m gs l p.3 vs t) (append_assoc ws new (w ∷ [])) p.7)) in
     (r.0, r.1, r.2, (p.0, p.1, p.2, p.3, At-in us new ws xs i p.0 h p.4, At-in us new ws xs j p.1 h p.5, p.6, r.3))
 
 answers_in : {W : Type 0} (us new ws : List W) (xs : List ℕ) → All2 (λ w i. At us i w) ws xs → (r : List W) (is : List ℕ)

@@ -46,7 +46,7 @@ module _ {W K : Type 0} (N : Wiring W K) (us ws : List W) (xs : List ℕ) (h : A
       let kept = ap (λ l. (read_gates N gs l r.1).1) (sym left) in (
         rest.0,
         ap (λ (q : W × K). read_gates N (map (renumbered (number_in xs (length us))) gs) ((us ++ new) ++ q.0 ∷ []) q.1) (gate_in g new k)
-        ∙ ap (λ l. read_gates N (map (renumbered (number_in xs (length us))) gs) l r.1) all ∙ rest.1 ∙ ap (λ e. (us ++ rest.0, e)) kept,
+            ∙ ap (λ l. read_gates N (map (renumbered (number_in xs (length us))) gs) l r.1) all ∙ rest.1 ∙ ap (λ e. (us ++ rest.0, e)) kept,
         ap (λ l. read_gates N gs l r.1) left ∙ rest.2 ∙ ap (λ e. (ws ++ rest.0, e)) kept,
       )
 

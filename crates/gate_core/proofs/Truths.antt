@@ -1,10 +1,11 @@
 -- Wires of gates that were played stand for the truth of the operands' bits.
 use Rattle.std.proofs.Common.{◌≡◌, ◌<◌, ℕ, zero, suc, Bool, false, not, ◌&&◌, List, [], ◌∷◌, ◌++◌, length, get_or, refl, ap, ◌∙◌, sym, subst, arith}
 use Rattle.std.specs.Bool.{⊤}
-use Rattle.gate_core.specs.Circuit.{Circuit, Calls, Plays, xor, truth}
+use Rattle.gate_core.specs.Circuit.{Circuit, Calls, Plays, xor}
+use Rattle.gate_core.proofs.Relating.{truth, Same, Costs}
 use Rattle.gate_core.specs.Circuit.Circuit.{give, known, flip, join, meet}
 use Rattle.gate_core.specs.Laws.{Laws}
-use Rattle.gate_core.specs.Relations.{Same, Costs, All2}
+use Rattle.gate_core.specs.Relations.{All2}
 use Rattle.gate_core.specs.GateList.{Gate, gate_known, gate_not, gate_xor, gate_and, At, PlaysList, PlaysGates, gates_of, numbers}
 use Rattle.gate_core.specs.Wiring.{bits, read_gates, wires_at, truth_of, ands_in, StandsForTruth}
 use Rattle.gate_core.proofs.Pairs.{All2-up, All2-push}

@@ -2,9 +2,10 @@
 use Rattle.std.proofs.Common.{◌≡◌, ℕ, zero, suc, ◌+◌, ◌<◌, ◌≤◌, ℤ, Bool, false, IsTrue, List, [], ◌∷◌, ◌++◌, length, take, drop, ap, ◌∙◌, sym, arith, subst}
 use Rattle.std.proofs.lemmas.List.{length-append, take_at, drop_at}
 use Rattle.std.proofs.lemmas.Bool.Decides.{nat_tests}
-use Rattle.gate_core.specs.Circuit.{Circuit, Calls, Plays, truth}
+use Rattle.gate_core.specs.Circuit.{Circuit, Calls, Plays}
+use Rattle.gate_core.proofs.Relating.{truth, Same, Costs}
 use Rattle.gate_core.specs.Circuit.Circuit.{give, known, flip, join, meet}
-use Rattle.gate_core.specs.Relations.{Same, Costs, All2}
+use Rattle.gate_core.specs.Relations.{All2}
 use Rattle.gate_core.specs.Laws.{Laws, Counts, Rises}
 use Rattle.gate_core.specs.GateList.{PlaysGates, numbers}
 use Rattle.gate_core.proofs.Playing.{Counts-all, Plays-stands}

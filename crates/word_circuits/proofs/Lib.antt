@@ -17,6 +17,6 @@ pub mod Dividing
 pub mod Signing
 pub mod DividingPairs
 pub mod DividingPlays
-pub mod Turned
+pub mod Deriving
 pub mod Operating
 pub mod Knowing

@@ -2,9 +2,10 @@
 use Rattle.std.proofs.Common.{◌≡◌, ℕ, zero, suc, ◌+◌, ◌*◌, ◌-◌, ◌%◌, ◌^◌, ◌<◌, ◌≤◌, Bool, true, false, ◌&&◌, ◌*ℤ◌, List, [], ◌∷◌, ◌++◌, length, get_or, take, drop, refl, ap, ◌∙◌, sym, arith, subst, inr}
 use Rattle.std.proofs.lemmas.List.{length_push, take_all, length-append, length-take-le, length-drop}
 use Rattle.std.proofs.lemmas.Nat.{pow-add, mod-mul-add}
-use Rattle.gate_core.specs.Circuit.{Circuit, Calls, Plays, then, times, truth}
+use Rattle.gate_core.specs.Circuit.{Circuit, Calls, Plays, then, times}
+use Rattle.gate_core.proofs.Relating.{truth, Same, Costs}
 use Rattle.gate_core.specs.Circuit.Circuit.{give, meet}
-use Rattle.gate_core.specs.Relations.{Same, Costs, All2}
+use Rattle.gate_core.specs.Relations.{All2}
 use Rattle.gate_core.proofs.Playing.{truth-then, truth-times, truth-row, Costs-then, Plays-then}
 use Rattle.gate_core.proofs.Pairs.{Same-then, Same-times, Same-row, All2-up, All2-at, All2-take, All2-drop, All2-append}
 use Rattle.oc_values.specs.Integers.{residue, wrap_bits}

@@ -1,8 +1,9 @@
 -- Every operation's gates give the language's integer.
 use Rattle.std.proofs.Common.{◌≡◌, ℕ, zero, suc, ◌+◌, ◌-◌, ◌<◌, ◌%◌, Bool, true, false, cond, IsTrue, ℤ, List, [], ◌∷◌, ◌++◌, length, refl, ap, ◌∙◌, sym, arith, subst}
 use Rattle.std.proofs.lemmas.List.{length-append}
-use Rattle.gate_core.specs.Circuit.{Circuit, truth}
-use Rattle.gate_core.specs.Relations.{Costs, All2}
+use Rattle.gate_core.specs.Circuit.{Circuit}
+use Rattle.gate_core.proofs.Relating.{truth, Costs}
+use Rattle.gate_core.specs.Relations.{All2}
 use Rattle.gate_core.specs.GateList.{numbers}
 use Rattle.gate_core.specs.Wiring.{truth_of, ands_in}
 use Rattle.gate_core.proofs.Playing.{truth-costs}
@@ -21,8 +22,8 @@ use Rattle.word_circuits.specs.Fragments.{Operation, inputs, outputs, circuit, f
 use Rattle.word_circuits.specs.Fragments.Operation.{op_add, op_subtract, op_negate, op_multiply, op_quotient, op_remainder, op_less, op_less_equal, op_greater, op_greater_equal, op_equal, op_unequal, op_to_bool, op_is_zero, op_meet, op_either, op_differ, op_flip, op_select, op_shift_known, op_shift_word, op_resize, op_copy}
 use Rattle.word_circuits.proofs.Calling.{Uniform, Counted, width_pos, length-two}
 use Rattle.word_circuits.proofs.Summing.{Uniform-add, Uniform-subtract, Uniform-negate, Uniform-less, Uniform-equal, Uniform-to_bool, Counted-add, Counted-subtract, Counted-negate, Counted-less, Counted-equal, Counted-to_bool}
-use Rattle.word_circuits.proofs.Turned.{Uniform-less_equal, Uniform-greater, Uniform-greater_equal, Uniform-unequal, Uniform-is_zero, Uniform-copy, Counted-less_equal, Counted-greater, Counted-greater_equal, Counted-unequal, Counted-is_zero, Counted-copy}
-use Rattle.word_circuits.proofs.Turned.{integer-greater, integer-less_equal, integer-greater_equal, integer-unequal, integer-is_zero}
+use Rattle.word_circuits.proofs.Deriving.{Uniform-less_equal, Uniform-greater, Uniform-greater_equal, Uniform-unequal, Uniform-is_zero, Uniform-copy, Counted-less_equal, Counted-greater, Counted-greater_equal, Counted-unequal, Counted-is_zero, Counted-copy}
+use Rattle.word_circuits.proofs.Deriving.{integer-greater, integer-less_equal, integer-greater_equal, integer-unequal, integer-is_zero}
 use Rattle.word_circuits.proofs.Multiplying.{Uniform-multiply, Counted-multiply, integer-multiply}
 use Rattle.word_circuits.proofs.DividingPairs.{Uniform-quotient, Uniform-remainder, Counted-quotient, Counted-remainder}
 use Rattle.word_circuits.proofs.Signing.{integer-quotient, integer-remainder}

@@ -2,7 +2,8 @@
 use Rattle.std.proofs.Common.{◌≡◌, ℕ, ◌+◌, ◌*◌, ◌-◌, ◌%◌, ◌^◌, ◌<◌, Bool, true, false, cond, bit_and, bit_or, bit_xor, ℤ, negsuc, ◌-ℤ◌, IsTrue, if◌then◌else◌, List, ◌∷◌, ◌++◌, length, get_or, take, drop, refl, ap, ◌∙◌, sym, arith}
 use Rattle.std.proofs.lemmas.List.{length-append, take_all}
 use Rattle.std.proofs.lemmas.Nat.{mod-mul-add, pow_pos, mod_below}
-use Rattle.gate_core.specs.Circuit.{Circuit, Calls, Plays, truth}
+use Rattle.gate_core.specs.Circuit.{Circuit, Calls, Plays}
+use Rattle.gate_core.proofs.Relating.{truth}
 use Rattle.gate_core.specs.Circuit.Circuit.{give, join, meet}
 use Rattle.gate_core.specs.Laws.{Laws}
 use Rattle.gate_core.proofs.Pairs.{All2-take, All2-drop, All2-at, All2-append, All2-length}

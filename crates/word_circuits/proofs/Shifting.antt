@@ -6,7 +6,8 @@ use Rattle.std.proofs.lemmas.Int.{ints}
 use Rattle.std.proofs.lemmas.Bool.{lt-ltb, le-ltb, eqb-true}
 use Rattle.std.proofs.lemmas.List.{take-append-drop, take_all, length-take-le, length-drop, length-replicate, append-nil}
 use Rattle.std.proofs.lemmas.Nat.{pow_pos, pow-add, div-mul-add, mod-mul-add, mul-mod_first, mul-mod_second, shr-shr, shl_below, mul-le, mod-pow-add, mod_low, mod_below}
-use Rattle.gate_core.specs.Circuit.{Calls, Plays, times, truth}
+use Rattle.gate_core.specs.Circuit.{Calls, Plays, times}
+use Rattle.gate_core.proofs.Relating.{truth}
 use Rattle.gate_core.proofs.Playing.{truth-times}
 use Rattle.word_circuits.specs.Widths.{is_width, log2}
 use Rattle.oc_values.specs.Integers.{residue, value_of_bits, wrap_bits, shift_amount}

@@ -4,9 +4,9 @@ use Rattle.std.proofs.Math.Nat.{pow-suc, div-le_self}
 use Rattle.std.proofs.lemmas.Int.{ints}
 use Rattle.std.proofs.lemmas.List.{length_push, take_all}
 use Rattle.std.proofs.lemmas.Nat.{mod-mul-add, pow_pos}
-use Rattle.gate_core.specs.Circuit.{Circuit, times, truth, xor}
+use Rattle.gate_core.specs.Circuit.{Circuit, times, xor}
+use Rattle.gate_core.proofs.Relating.{truth, Costs}
 use Rattle.gate_core.specs.Circuit.Circuit.{give, join}
-use Rattle.gate_core.specs.Relations.{Costs}
 use Rattle.gate_core.proofs.Playing.{truth-then, truth-times, Costs-then, Costs-times}
 use Rattle.oc_values.specs.Integers.{residue, value_of_bits, wrap_bits, quotient, remainder}
 use Rattle.word_circuits.specs.Integers.{number, bit, value}

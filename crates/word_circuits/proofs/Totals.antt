@@ -3,7 +3,8 @@ use Rattle.std.proofs.Common.{◌≡◌, ℕ, zero, suc, ◌+◌, ◌*◌, ◌-�
 use Rattle.std.proofs.lemmas.Int.{ints}
 use Rattle.std.proofs.lemmas.Bool.{lt-ltb, le-ltb}
 use Rattle.std.proofs.lemmas.Nat.{pow_pos}
-use Rattle.gate_core.specs.Circuit.{Circuit, truth}
+use Rattle.gate_core.specs.Circuit.{Circuit}
+use Rattle.gate_core.proofs.Relating.{truth}
 use Rattle.oc_values.specs.Integers.{residue, value_of_bits, wrap_bits, is_zero, number_of}
 use Rattle.word_circuits.specs.Integers.{number, bit, value}
 use Rattle.word_circuits.specs.Chains.{add_circuit, subtract_circuit, negate_circuit, less_circuit, equal_circuit}
@@ -13,7 +14,7 @@ use Rattle.word_circuits.proofs.Values.{value-below}
 use Rattle.word_circuits.proofs.Whole.{residue-value, residue-add, residue-sub, residue-neg}
 use Rattle.word_circuits.proofs.Adding.{Sums-mod, truth-sums}
 use Rattle.word_circuits.proofs.Turning.{truth-subtract, truth-negate}
-use Rattle.word_circuits.proofs.Comparing.{Topped, topped, Moved, truth-turned, Orders, truth-less, truth-equal, truth-to_bool}
+use Rattle.word_circuits.proofs.Comparing.{Topped, topped, Moved, truth-biased, Orders, truth-less, truth-equal, truth-to_bool}
 use Rattle.word_circuits.proofs.Calling.{apart}
 
 -- bits that spell what is left of an integer stand for the integer, wrapped
@@ -88,8 +89,8 @@ plus_zero n = omega (arith, ints)
 pub integer-less : (signed : Bool) (w : ℕ) → 0 < w → (p q : List Bool) → length p ≡ w → length q ≡ w
     → number false (truth (circuit (op_less signed) w false (p ++ q))) ≡ number_of (int_lt (number signed p) (number signed q))
 integer-less true w some p q lp lq =
-    let mp = truth-turned p true w some lp in
-    let mq = truth-turned q true w some lq in
+    let mp = truth-biased p true w some lp in
+    let mq = truth-biased q true w some lq in
     let h = truth-less true p q w mp.len mq.len in
     ap (λ (c : Circuit Bool (List Bool)). number false (truth c)) (apart (λ x y. less_circuit true w x y) p q w lp)
     ∙ ap (number false) h.1 ∙ number-bit h.0

@@ -3,7 +3,7 @@
 ghost use Rattle.std.specs.Prelude.{◌≡◌, ◌<◌, ◌≤◌, ◌+◌, ◌-◌, ◌++◌, ◌∷◌, [], length, ℤ, Bool, false};
 ghost use Rattle.gate_core.specs.Circuit.{Plays};
 ghost use Rattle.gate_core.specs.Laws.{HasRoom};
-ghost use Rattle.word_circuits.specs.Chains.{turned, less_circuit, equal_circuit, to_bool_circuit};
+ghost use Rattle.word_circuits.specs.Chains.{biased, less_circuit, equal_circuit, to_bool_circuit};
 ghost use Rattle.oc_values.specs.declared.integers.BinaryOp.TheVariants.{Less, Equal};
 ghost use Rattle.oc_values.specs.declared.integers.IntKind.TheVariants.{Bool as KBool};
 ghost use Rattle.oc_values.specs.Integers.{operate_bits, convert};
@@ -69,8 +69,8 @@ pub(crate) fn less_wires<G: Gates>(
 {
     let width = x.len();
     let one = gates.known(true);
-    let left = turned(gates, x, signed);
-    let right = turned(gates, y, signed);
+    let left = biased(gates, x, signed);
+    let right = biased(gates, y, signed);
     let flipped = flip_wires(gates, right.as_slice(), width);
     let chained = chain(gates, left.as_slice(), flipped.as_slice(), one, width);
     Word::of_wire(gates.not(chained.1))
@@ -78,10 +78,10 @@ pub(crate) fn less_wires<G: Gates>(
 
 // The word, with its top bit turned where it has a sign: the order of words with a sign is then that of
 // numbers.
-fn turned<G: Gates>(gates: &G, x: &[G::Wire], signed: bool) -> ArrayVec<G::Wire, 64>
+fn biased<G: Gates>(gates: &G, x: &[G::Wire], signed: bool) -> ArrayVec<G::Wire, 64>
     requires some { 0 < length x.now }
     requires fits { length x.now ≤ 64 }
-    ensures plays { (d : G.Wire) → Plays G.calls (turned signed (length x.now) x.now d) gates.now result.items gates.now }
+    ensures plays { (d : G.Wire) → Plays G.calls (biased signed (length x.now) x.now d) gates.now result.items gates.now }
     ensures len { length result.items ≡ length x.now }
 {
     if !signed {

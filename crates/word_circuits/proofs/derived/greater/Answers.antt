@@ -4,7 +4,7 @@ use Rattle.oc_values.specs.Integers.{number_of, is_zero}
 use Rattle.word_circuits.specs.Chains.{less_circuit}
 use Rattle.word_circuits.specs.Fragments.Operation.{op_greater}
 use Rattle.word_circuits.proofs.Calling.{width_pos, width_most, width_of, owed, carried_two, means_two, length-two, on_two}
-use Rattle.word_circuits.proofs.Turned.{Uniform-greater, Counted-greater, integer-greater}
+use Rattle.word_circuits.proofs.Deriving.{Uniform-greater, Counted-greater, integer-greater}
 use Rattle.word_circuits.proofs.derived.greater.Goals as goal
 
 pub less_wires-requires : goal.less_wires-requires

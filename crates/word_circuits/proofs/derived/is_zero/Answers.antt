@@ -4,7 +4,7 @@ use Rattle.oc_values.specs.Integers.{number_of, is_zero}
 use Rattle.word_circuits.specs.Chains.{to_bool_circuit, other_word}
 use Rattle.word_circuits.specs.Fragments.Operation.{op_is_zero}
 use Rattle.word_circuits.proofs.Calling.{width_pos, width_of, owed, carried_one, means_one, on_one}
-use Rattle.word_circuits.proofs.Turned.{Uniform-is_zero, Counted-is_zero, integer-is_zero}
+use Rattle.word_circuits.proofs.Deriving.{Uniform-is_zero, Counted-is_zero, integer-is_zero}
 use Rattle.word_circuits.proofs.derived.is_zero.Goals as goal
 
 pub any_true-requires : goal.any_true-requires

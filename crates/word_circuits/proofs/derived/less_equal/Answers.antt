@@ -5,7 +5,7 @@ use Rattle.oc_values.specs.Integers.{number_of, is_zero}
 use Rattle.word_circuits.specs.Chains.{less_circuit, other_word}
 use Rattle.word_circuits.specs.Fragments.Operation.{op_less_equal}
 use Rattle.word_circuits.proofs.Calling.{width_pos, width_most, width_of, owed, carried_two, means_two, length-two, on_two}
-use Rattle.word_circuits.proofs.Turned.{Uniform-less_equal, Counted-less_equal, integer-less_equal}
+use Rattle.word_circuits.proofs.Deriving.{Uniform-less_equal, Counted-less_equal, integer-less_equal}
 use Rattle.word_circuits.proofs.derived.less_equal.Goals as goal
 
 pub less_wires-above-requires : goal.less_wires-above-requires

@@ -5,7 +5,7 @@ use Rattle.oc_values.specs.Integers.{number_of, is_zero}
 use Rattle.word_circuits.specs.Chains.{equal_circuit, other_word}
 use Rattle.word_circuits.specs.Fragments.Operation.{op_unequal}
 use Rattle.word_circuits.proofs.Calling.{width_pos, width_most, width_of, owed, carried_two, means_two, length-two, on_two}
-use Rattle.word_circuits.proofs.Turned.{Uniform-unequal, Counted-unequal, integer-unequal}
+use Rattle.word_circuits.proofs.Deriving.{Uniform-unequal, Counted-unequal, integer-unequal}
 use Rattle.word_circuits.proofs.derived.unequal.Goals as goal
 
 pub all_alike-requires : goal.all_alike-requires

@@ -1,7 +1,8 @@
 -- Comparisons that are others, turned.
 use Rattle.std.proofs.Common.{◌≡◌, ℕ, ◌-◌, ◌<◌, Bool, true, false, not, ℤ, ◌-ℤ◌, int_lt, List, [], ◌∷◌, ◌++◌, length, take, drop, refl, ap, ◌∙◌, sym, arith, subst, inr}
-use Rattle.gate_core.specs.Circuit.{Circuit, then, truth}
-use Rattle.gate_core.specs.Relations.{Same, Costs, All2}
+use Rattle.gate_core.specs.Circuit.{Circuit, then}
+use Rattle.gate_core.proofs.Relating.{truth, Same, Costs}
+use Rattle.gate_core.specs.Relations.{All2}
 use Rattle.gate_core.proofs.Playing.{Costs-then, truth-then, truth-costs}
 use Rattle.gate_core.proofs.Pairs.{Same-then, All2-at, All2-take, All2-drop}
 use Rattle.oc_values.specs.Integers.{number_of, is_zero}
