@@ -3,7 +3,8 @@ use Rattle.std.proofs.Common.{◌≡◌, ℕ, suc, List, [], ◌∷◌, ◌++◌
 use Rattle.std.proofs.lemmas.List.{length_push, get_or_push, get_or_append_left, get_or_at, length-append, append_assoc}
 use Rattle.gate_core.specs.Circuit.{Circuit, Calls, Plays}
 use Rattle.gate_core.specs.Circuit.Circuit.{give, known, flip, join, meet}
-use Rattle.gate_core.specs.Relations.{Same, All2}
+use Rattle.gate_core.specs.Relations.{All2}
+use Rattle.gate_core.proofs.Relating.{Same}
 use Rattle.gate_core.specs.GateList.{At, PlaysList, PlaysGates, gates_of, numbers}
 use Rattle.gate_core.proofs.Pairs.{All2-up}
 

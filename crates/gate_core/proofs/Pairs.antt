@@ -2,7 +2,8 @@
 use Rattle.std.proofs.Common.{◌≡◌, ℕ, zero, suc, List, [], ◌∷◌, ◌++◌, length, get_or, take, drop, replicate, refl, arith, inl}
 use Rattle.gate_core.specs.Circuit.{Circuit, then, times, row}
 use Rattle.gate_core.specs.Circuit.Circuit.{give, known, flip, join, meet}
-use Rattle.gate_core.specs.Relations.{Same, All2}
+use Rattle.gate_core.specs.Relations.{All2}
+use Rattle.gate_core.proofs.Relating.{Same}
 
 -- one circuit after another, over two kinds of wires
 pub Same-then : {V W A B C D : Type 0} (Q : (V → W → Type 0) → A → B → Type 0) (Q' : (V → W → Type 0) → C → D → Type 0) (R : V → W → Type 0)

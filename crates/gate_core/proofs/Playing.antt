@@ -1,9 +1,9 @@
 -- Playing circuits, one after another and in loops: the state, the counts and the bits.
 use Rattle.std.proofs.Common.{◌≡◌, ℕ, zero, suc, ◌+◌, ◌*◌, ◌%◌, ◌^◌, ◌<◌, ◌≤◌, Bool, ◌&&◌, not, List, [], ◌∷◌, ◌++◌, length, refl, ap, ◌∙◌, sym, arith, subst, inl, inr, add-one}
 use Rattle.std.proofs.lemmas.List.{length_push}
-use Rattle.gate_core.specs.Circuit.{Circuit, Calls, then, times, row, Plays, truth, xor}
+use Rattle.gate_core.specs.Circuit.{Circuit, Calls, then, times, row, Plays, xor}
+use Rattle.gate_core.proofs.Relating.{truth, Same, Costs}
 use Rattle.gate_core.specs.Circuit.Circuit.{give, known, flip, join, meet}
-use Rattle.gate_core.specs.Relations.{Same, Costs}
 use Rattle.gate_core.specs.Laws.{Laws, Counts, Rises}
 
 -- a circuit and what follows it
@@ -90,6 +90,14 @@ truth-then (known b k) f = truth-then (k b) f
 truth-then (flip x k) f = truth-then (k (not x)) f
 truth-then (join x y k) f = truth-then (k (xor x y)) f
 truth-then (meet x y k) f = truth-then (k (x && y)) f
+
+-- and what the answer meets
+pub truth-costs : {A : Type 0} (Q : A → Type 0) (n : ℕ) (c : Circuit Bool A) → Costs Q n c → Q (truth c)
+truth-costs Q n (give a) h = h.1
+truth-costs Q n (known b k) h = truth-costs Q n (k b) (h b)
+truth-costs Q n (flip x k) h = truth-costs Q n (k (not x)) (h (not x))
+truth-costs Q n (join x y k) h = truth-costs Q n (k (xor x y)) (h (xor x y))
+truth-costs Q n (meet x y k) h = truth-costs Q h.0 (k (x && y)) (h.2 (x && y))
 
 -- where wires stand for bits before, the answer stands for the truth after
 pub Plays-stands : {S W A B : Type 0} (m : Calls S W) (stands : S → W → Bool → Type 0) → Laws m stands

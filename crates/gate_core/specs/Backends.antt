@@ -38,10 +38,11 @@ plain_laws = record {
   xor_stands = λ s a b x y h k. ap (λ v. xor v b) h ∙ ap (λ v. xor x v) k;
   and_stands = λ s t a b w x y g h k. g.0 ∙ ap (λ v. v && b) h ∙ ap (λ v. x && v) k;
   and_keeps = λ s t a b w v x g h. h;
+  and_known = λ s t a b w x g. refl;
 }
 
--- a default wire stands for 0: the default bit is false
-pub plain_default : (s : ℕ) (w : Bool) → w ≡ false → w ≡ false
+-- a default wire is the known 0: the default bit is false
+pub plain_default : (s : ℕ) (w : Bool) → w ≡ false → w ≡ plain_calls.known_wire s false
 plain_default s w h = h
 
 -- with wires that are bits an AND adds one to the count, and the room is always most_ands
@@ -56,11 +57,12 @@ blank_laws = record {
   xor_stands = λ s a b x y h k. tt;
   and_stands = λ s t a b w x y g h k. tt;
   and_keeps = λ s t a b w v x g h. tt;
+  and_known = λ s t a b w x g. refl;
 }
 
--- a default wire stands for 0, as for every bit
-pub blank_default : (s : ℕ) (w : ⊤) → ⊤ → ⊤
-blank_default s w h = tt
+-- a default wire is the known 0, as every wire is
+pub blank_default : (s : ℕ) (w : ⊤) → ⊤ → w ≡ blank_calls.known_wire s false
+blank_default s w h = refl
 
 -- with wires without anything an AND adds one to the count, and the room is always most_ands
 pub blank_counts : Counts blank_calls (λ (s : ℕ). s) (λ (s : ℕ). most_ands)

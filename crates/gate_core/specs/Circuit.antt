@@ -45,11 +45,3 @@ Plays {S} {W} m (meet x y k) s r t = (w : W) × (u : S) × m.and_is s x y w u ×
 abbrev pub xor : Bool → Bool → Bool
 xor false y = y
 xor true y = not y
-
--- the answer of a circuit whose wires are bits
-abbrev pub truth : {A : Type 0} → Circuit Bool A → A
-truth (give a) = a
-truth (known b k) = truth (k b)
-truth (flip x k) = truth (k (not x))
-truth (join x y k) = truth (k (xor x y))
-truth (meet x y k) = truth (k (x && y))

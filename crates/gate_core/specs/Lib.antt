@@ -3,3 +3,4 @@ pub mod Relations
 pub mod Laws
 pub mod GateList
 pub mod Backends
+pub mod Wiring

@@ -4,7 +4,7 @@ ghost use Rattle.std.specs.Prelude.{◌≡◌, ⊤};
 ghost use Rattle.gate_core.specs.Backends.{blank_calls, most_ands};
 ghost use Rattle.gate_core.specs.Backends.{blank_laws, blank_default, blank_counts};
 
-use crate::Gates;
+use crate::{Gates, MOST_ANDS};
 use std::marker::Model;
 
 /// A backend that only counts: its wires carry nothing. It has room for the ANDs of any one word operation
@@ -60,12 +60,12 @@ impl Gates for Blank {
     }
 
     fn room(&self) -> u32 {
-        8_445
+        MOST_ANDS
     }
 
     ghost laws = { blank_laws };
 
-    ghost default_stands = { blank_default };
+    ghost default_known = { blank_default };
 
     ghost counts = { blank_counts };
 }

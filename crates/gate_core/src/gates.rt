@@ -1,13 +1,16 @@
 //! What makes gates.
 
-ghost use Rattle.std.specs.Prelude.{◌≡◌, ℕ, ◌<◌, Bool, false};
+ghost use Rattle.std.specs.Prelude.{◌≡◌, ℕ, Bool, false};
 ghost use Rattle.gate_core.specs.Circuit.{Calls};
-ghost use Rattle.gate_core.specs.Laws.{Laws, Counts};
+ghost use Rattle.gate_core.specs.Laws.{Laws, Counts, HasRoom};
+
+/// The ANDs that one operation on words makes at most.
+pub const MOST_ANDS: u32 = 8_445;
 
 /// A backend: it makes gates, one after another, and gives each a wire. XOR and NOT are free, and each AND
 /// is counted.
 pub trait Gates {
-    /// What carries a bit. Its default stands for 0.
+    /// What carries a bit. Its default is the known 0.
     type Wire: Copy + Default;
 
     // The wire stands for this bit.
@@ -36,7 +39,7 @@ pub trait Gates {
 
     /// Makes an AND gate.
     fn and(&mut self, a: Self::Wire, b: Self::Wire) -> Self::Wire
-        requires { 0 < room self.old }
+        requires { HasRoom room self.old 1 }
         ensures { calls.and_is self.old a b result self.new };
 
     /// How many ANDs can be made now.
@@ -46,8 +49,8 @@ pub trait Gates {
     // Each call gives a wire that stands for its function of the bits.
     ghost laws: { Laws calls stands };
 
-    // The default wire stands for 0.
-    ghost default_stands: { (s : Self) (w : Self.Wire) → Self.Wire.is_default w → stands s w false };
+    // The default wire is the known 0.
+    ghost default_known: { (s : Self) (w : Self.Wire) → Self.Wire.is_default w → w ≡ calls.known_wire s false };
 
     // An AND is counted, and takes room for one at most.
     ghost counts: { Counts calls made room };

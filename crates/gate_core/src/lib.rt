@@ -7,10 +7,14 @@
 
 mod blank;
 mod gates;
+mod laws;
 mod plain;
 
 pub use blank::Blank;
-pub use gates::Gates;
+pub use gates::{Gates, MOST_ANDS};
+pub use laws::{
+    gates_join, operands_are_put_in, operands_are_read, readings_join, wires_stand_for_truth,
+};
 pub use plain::PlainBits;
 
 #[cfg(test)]

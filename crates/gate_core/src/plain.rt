@@ -4,7 +4,7 @@ ghost use Rattle.std.specs.Prelude.{◌≡◌};
 ghost use Rattle.gate_core.specs.Backends.{plain_calls, most_ands};
 ghost use Rattle.gate_core.specs.Backends.{plain_laws, plain_default, plain_counts};
 
-use crate::Gates;
+use crate::{Gates, MOST_ANDS};
 use std::marker::Model;
 
 /// A backend whose wires are bits in the clear. It has room for the ANDs of any one word operation at any
@@ -67,12 +67,12 @@ impl Gates for PlainBits {
     }
 
     fn room(&self) -> u32 {
-        8_445
+        MOST_ANDS
     }
 
     ghost laws = { plain_laws };
 
-    ghost default_stands = { plain_default };
+    ghost default_known = { plain_default };
 
     ghost counts = { plain_counts };
 }

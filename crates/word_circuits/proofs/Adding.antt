@@ -3,9 +3,9 @@ use Rattle.std.proofs.Common.{◌≡◌, ℕ, suc, ◌+◌, ◌*◌, ◌-◌, �
 use Rattle.std.proofs.Math.Nat.{pow-suc}
 use Rattle.std.proofs.lemmas.List.{length_push, take_all}
 use Rattle.std.proofs.lemmas.Nat.{mod-mul-add}
-use Rattle.gate_core.specs.Circuit.{truth, xor}
+use Rattle.gate_core.specs.Circuit.{xor}
+use Rattle.gate_core.proofs.Relating.{truth, Costs}
 use Rattle.gate_core.specs.Circuit.Circuit.{give, flip}
-use Rattle.gate_core.specs.Relations.{Costs}
 use Rattle.gate_core.proofs.Playing.{truth-then, truth-times, Costs-then, Costs-times, Costs-row}
 use Rattle.word_circuits.specs.Integers.{bit, value}
 use Rattle.word_circuits.specs.Chains.{Carried, adder, chain_step, chain, last_sum, sums, add_circuit, flips, subtract_circuit}

@@ -2,9 +2,10 @@
 use Rattle.std.proofs.Common.{◌≡◌, ℕ, ◌+◌, ◌-◌, Bool, true, false, List, [], ◌∷◌, ◌++◌, get_or, take, replicate, refl, ◌⊎◌, inl, inr}
 use Rattle.gate_core.specs.Circuit.{Circuit, then}
 use Rattle.gate_core.specs.Circuit.Circuit.{give, flip, meet}
-use Rattle.gate_core.specs.Relations.{Same, All2}
+use Rattle.gate_core.specs.Relations.{All2}
+use Rattle.gate_core.proofs.Relating.{Same}
 use Rattle.gate_core.proofs.Pairs.{Same-then, Same-times, Same-row, All2-up, All2-at, All2-push, All2-take, All2-replicate}
-use Rattle.word_circuits.specs.Chains.{Carried, adder, chain_step, chain, last_sum, sums, add_circuit, flips, subtract_circuit, negate_circuit, turned, less_circuit, conjunction, alike, equal_circuit, other, to_bool_circuit}
+use Rattle.word_circuits.specs.Chains.{Carried, adder, chain_step, chain, last_sum, sums, add_circuit, flips, subtract_circuit, negate_circuit, biased, less_circuit, conjunction, alike, equal_circuit, other, to_bool_circuit}
 
 module _ {V W : Type 0} where
   abbrev pub SamePair : (V → W → Type 0) → (V × V) → (W × W) → Type 0
@@ -79,12 +80,12 @@ module _ {V W : Type 0} where
     λ z z'. Same-subtract (λ v w. R v w ⊎ ((v ≡ z) × (w ≡ z'))) n (replicate n z) x (replicate n z') x' (All2-replicate _ n z z' (inr (refl, refl))) (All2-up R _ x x' (λ v w e. inl e) hx),
   )
 
-  pub Same-turned : (R : V → W → Type 0) (signed : Bool) (n : ℕ) (x : List V) (x' : List W) (d : V) (d' : W) → All2 R x x' → R d d' → Same R All2 (turned signed n x d) (turned signed n x' d')
-  Same-turned R true n x x' d d' hx hd = (
+  pub Same-biased : (R : V → W → Type 0) (signed : Bool) (n : ℕ) (x : List V) (x' : List W) (d : V) (d' : W) → All2 R x x' → R d d' → Same R All2 (biased signed n x d) (biased signed n x' d')
+  Same-biased R true n x x' d d' hx hd = (
     All2-at R x x' d d' (n - 1) hd hx,
     λ t t'. All2-push _ (take (n - 1) x) (take (n - 1) x') t t' (All2-up R _ (take (n - 1) x) (take (n - 1) x') (λ v w e. inl e) (All2-take R (n - 1) x x' hx)) (inr (refl, refl)),
   )
-  Same-turned R false n x x' d d' hx hd = hx
+  Same-biased R false n x x' d d' hx hd = hx
 
   pub Same-less : (R : V → W → Type 0) (signed : Bool) (n : ℕ) (x y : List V) (x' y' : List W) → All2 R x x' → All2 R y y' → Same R All2 (less_circuit signed n x y) (less_circuit signed n x' y')
   Same-less R signed n x y x' y' hx hy = (
@@ -94,8 +95,8 @@ module _ {V W : Type 0} where
         let pz : P z z' = inr (refl, refl) in
         let px = All2-up R P x x' (λ v w e. inl e) hx in
         let py = All2-up R P y y' (λ v w e. inl e) hy in
-        Same-then All2 All2 P (turned signed n x z) (turned signed n x' z') _ _ (Same-turned P signed n x x' z z' px pz)
-        (λ A upA u u' hu. Same-then All2 All2 A (turned signed n y z) (turned signed n y' z') _ _ (Same-turned A signed n y y' z z' (All2-up P A y y' upA py) (upA z z' pz))
+        Same-then All2 All2 P (biased signed n x z) (biased signed n x' z') _ _ (Same-biased P signed n x x' z z' px pz)
+        (λ A upA u u' hu. Same-then All2 All2 A (biased signed n y z) (biased signed n y' z') _ _ (Same-biased A signed n y y' z z' (All2-up P A y y' upA py) (upA z z' pz))
         (λ B upB t t' ht.
         let bz : B z z' = upB z z' (upA z z' pz) in
         Same-then All2 All2 B (flips t z n) (flips t' z' n) _ _ (Same-flips B t t' z z' n ht bz)

@@ -3,7 +3,7 @@ use Rattle.std.proofs.Common.{◌≡◌, ℕ, Bool, true, false, replicate, ◌+
 use Rattle.gate_core.specs.Circuit.{Circuit, Calls, Plays, then, times}
 use Rattle.gate_core.specs.Circuit.Circuit.{give, flip, meet}
 use Rattle.gate_core.proofs.Playing.{Plays-then}
-use Rattle.word_circuits.specs.Chains.{Carried, adder, chain, chain_step, last_sum, sums, add_circuit, flips, subtract_circuit, negate_circuit, turned, less_circuit, conjunction, alike, other, equal_circuit, to_bool_circuit}
+use Rattle.word_circuits.specs.Chains.{Carried, adder, chain, chain_step, last_sum, sums, add_circuit, flips, subtract_circuit, negate_circuit, biased, less_circuit, conjunction, alike, other, equal_circuit, to_bool_circuit}
 
 module _ {S W : Type 0} (m : Calls S W) where
   pub Plays-chain_step : (x y : List W) (d : W) (i : ℕ) (a : Carried W) (s t : S) (u v : W) (r : W × W)
@@ -39,19 +39,19 @@ module _ {S W : Type 0} (m : Calls S W) where
       subst (λ v. Plays m (subtract_circuit w (replicate w v) x) s r t) e
       (subst (λ v. Plays m (subtract_circuit w v x) s r t) ez (subst (λ v. Plays m (subtract_circuit w z v) s r t) ex h))
 
-  pub Plays-turned : (x : List W) (d : W) (w : ℕ) (s : S) (u t : W) (l : List W) → u ≡ get_or x (w - 1) d → t ≡ m.not_wire s u → l ≡ take (w - 1) x
-      → Plays m (turned true w x d) s (l ++ t ∷ []) s
-  Plays-turned x d w s u t l eu et el = rw (← eu, ← et, el) (refl, refl)
+  pub Plays-biased : (x : List W) (d : W) (w : ℕ) (s : S) (u t : W) (l : List W) → u ≡ get_or x (w - 1) d → t ≡ m.not_wire s u → l ≡ take (w - 1) x
+      → Plays m (biased true w x d) s (l ++ t ∷ []) s
+  Plays-biased x d w s u t l eu et el = rw (← eu, ← et, el) (refl, refl)
 
   pub Plays-less : (signed : Bool) (w : ℕ) (x y : List W) (c : W) (u v nv v2 u2 nv2 : List W) (a : Carried W) (s t : S) (l : W)
       → c ≡ m.known_wire s true → v2 ≡ v → u2 ≡ u → nv2 ≡ nv
-      → Plays m (turned signed w x c) s u s → Plays m (turned signed w y c) s v s → Plays m (flips v2 c w) s nv s
+      → Plays m (biased signed w x c) s u s → Plays m (biased signed w y c) s v s → Plays m (flips v2 c w) s nv s
       → Plays m (chain u2 nv2 c c w) s a t → l ≡ m.not_wire t a.carry → Plays m (less_circuit signed w x y) s (l ∷ []) t
   Plays-less signed w x y c u v nv v2 u2 nv2 a s t l e ev eu en hx hy hn hc el =
-      subst (λ c. Plays m (then (turned signed w x c) (λ u. then (turned signed w y c) (λ v. then (flips v c w) (λ nv. then (chain u nv c c w) (λ a. flip a.carry (λ l. give (l ∷ [])))))))
+      subst (λ c. Plays m (then (biased signed w x c) (λ u. then (biased signed w y c) (λ v. then (flips v c w) (λ nv. then (chain u nv c c w) (λ a. flip a.carry (λ l. give (l ∷ [])))))))
       s (l ∷ []) t) e
-      (Plays-then m (turned signed w x c) _ s s t u (l ∷ []) hx
-      (Plays-then m (turned signed w y c) _ s s t v (l ∷ []) hy
+      (Plays-then m (biased signed w x c) _ s s t u (l ∷ []) hx
+      (Plays-then m (biased signed w y c) _ s s t v (l ∷ []) hy
       (Plays-then m (flips v c w) _ s s t nv (l ∷ []) (subst (λ k. Plays m (flips k c w) s nv s) ev hn)
       (Plays-then m (chain u nv c c w) _ s t t a (l ∷ []) (subst (λ k. Plays m (chain u k c c w) s a t) en (subst (λ k. Plays m (chain k nv2 c c w) s a t) eu hc))
       (ap (λ (k : W). k ∷ []) (sym el), refl)))))

@@ -2,17 +2,18 @@
 use Rattle.std.proofs.Common.{◌≡◌, ℕ, zero, suc, ◌+◌, ◌<◌, ◌≤◌, ℤ, Bool, false, IsTrue, List, [], ◌∷◌, ◌++◌, length, take, drop, ap, ◌∙◌, sym, arith, subst}
 use Rattle.std.proofs.lemmas.List.{length-append, take_at, drop_at}
 use Rattle.std.proofs.lemmas.Bool.Decides.{nat_tests}
-use Rattle.gate_core.specs.Circuit.{Circuit, Calls, Plays, truth}
+use Rattle.gate_core.specs.Circuit.{Circuit, Calls, Plays}
+use Rattle.gate_core.proofs.Relating.{truth, Same, Costs}
 use Rattle.gate_core.specs.Circuit.Circuit.{give, known, flip, join, meet}
-use Rattle.gate_core.specs.Relations.{Same, Costs, All2}
+use Rattle.gate_core.specs.Relations.{All2}
 use Rattle.gate_core.specs.Laws.{Laws, Counts, Rises}
 use Rattle.gate_core.specs.GateList.{PlaysGates, numbers}
 use Rattle.gate_core.proofs.Playing.{Counts-all, Plays-stands}
 use Rattle.gate_core.proofs.Pairs.{All2-up, All2-append, All2-length}
 use Rattle.gate_core.proofs.Numbered.{Plays-gates}
 use Rattle.word_circuits.specs.Widths.{is_width}
-use Rattle.word_circuits.specs.Integers.{value, value_of_bits, Means}
-use Rattle.word_circuits.specs.Fragments.{Operation, inputs, outputs, circuit, fragment, ands_of, word_op}
+use Rattle.word_circuits.specs.Integers.{number, Means}
+use Rattle.word_circuits.specs.Fragments.{Operation, inputs, outputs, circuit, fragment, ands_of, word_op, Performs}
 
 pub width_pos : (n : ℕ) → IsTrue (is_width n) → 0 < n
 width_pos zero h = absurd (cc)
@@ -29,12 +30,10 @@ Uniform op w = (V W : Type 0) (R : V → W → Type 0) (d : V) (e : W) (xs : Lis
 abbrev pub Counted : Operation → ℕ → Type 1
 Counted op w = (W : Type 0) (d : W) (xs : List W) → length xs ≡ inputs op w → Costs (λ (l : List W). length l ≡ outputs op w) (ands_of (word_op op) w) (circuit op w d xs)
 
+-- what a call owes, and how many wires it answers
 pub record Owed {S W : Type 0} (m : Calls S W) (stands : S → W → Bool → Type 0) (tally space : S → ℕ) (op : Operation) (w : ℕ) (xs : List W) (s : S) (r : List W) (t : S) : Type 0 where
-  pub plays : PlaysGates m (fragment op w) xs s r t
-  pub made : Rises (tally s) (ands_of (word_op op) w) (tally t)
-  pub room : space s ≤ space t + ands_of (word_op op) w
+  pub performs : Performs m stands tally space op w xs s r t
   pub width : length r ≡ outputs op w
-  pub keeps : (v : W) (b : Bool) → stands s v b → stands t v b
 
 -- wires that stood for a bit do so after any circuit
 Plays-keeps : {S W A : Type 0} (m : Calls S W) (stands : S → W → Bool → Type 0) → Laws m stands → (c : Circuit W A) (s t : S) (r : A) → Plays m c s r t
@@ -66,11 +65,13 @@ owed {S} {W} m stands made room law counts op w xs s t r pos len same cost p =
     let z = m.known_wire s false in
     let k = Counts-all m made room counts _ (ands_of (word_op op) w) (circuit op w z xs) s t r (cost W z xs len) (p z) in
     record {
-      plays = list_played m op w xs s t r pos len same p;
-      made = k.0;
-      room = k.1;
+      performs = record {
+        plays = list_played m op w xs s t r pos len same p;
+        made = k.0;
+        room = k.1;
+        keeps = Plays-keeps m stands law (circuit op w z xs) s t r (p z);
+      };
       width = k.2;
-      keeps = Plays-keeps m stands law (circuit op w z xs) s t r (p z);
     }
 
 -- the answer's wires stand for what the circuit gives of the operands' bits
@@ -81,10 +82,6 @@ bits_after {S} {W} m stands law op w xs bs s t r same p h =
     let z = m.known_wire s false in
     Plays-stands m stands law All2 (λ P R up vs ws. All2-up P R vs ws up) (stands s) (circuit op w z xs) (circuit op w false bs) s t r
     (same W Bool (stands s) z false xs bs (law.known_stands s false) h) (λ w b e. e) (p z)
-
--- the integer that bits stand for
-abbrev pub number : Bool → List Bool → ℤ
-number signed bs = value_of_bits signed (length bs) (value bs)
 
 -- an operation on one word
 pub means_one : {S W : Type 0} (m : Calls S W) (stands : S → W → Bool → Type 0) → Laws m stands

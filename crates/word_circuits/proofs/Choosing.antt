@@ -2,9 +2,9 @@
 use Rattle.std.proofs.Common.{◌≡◌, ℕ, suc, ◌+◌, ◌*◌, ◌^◌, ◌<◌, ◌≤◌, Bool, true, false, ◌&&◌, not, cond, bit_and, bit_or, bit_xor, List, [], ◌∷◌, ◌++◌, length, get_or, take, refl, ap, ◌∙◌, sym, arith, subst}
 use Rattle.std.proofs.lemmas.List.{length_push, take_more, take_all, length-take-le}
 use Rattle.std.proofs.lemmas.Nat.{and_block, or_block, xor_block}
-use Rattle.gate_core.specs.Circuit.{Circuit, row, truth, xor}
+use Rattle.gate_core.specs.Circuit.{Circuit, row, xor}
+use Rattle.gate_core.proofs.Relating.{truth, Costs}
 use Rattle.gate_core.specs.Circuit.Circuit.{give, join, meet}
-use Rattle.gate_core.specs.Relations.{Costs}
 use Rattle.gate_core.proofs.Playing.{truth-row, Costs-row}
 use Rattle.word_circuits.specs.Integers.{bit, value}
 use Rattle.word_circuits.specs.Choices.{meet_circuit, either_bit, either_circuit, differ_circuit, choose_bit, choose}

@@ -3,7 +3,8 @@ use Rattle.std.proofs.Common.{◌≡◌, ℕ, ◌-◌, ◌*◌, ◌%◌, ◌^◌
 use Rattle.std.proofs.lemmas.List.{length-append, length-replicate, length-take, length-take-le, length-drop}
 use Rattle.gate_core.specs.Circuit.{times}
 use Rattle.gate_core.specs.Circuit.Circuit.{give, join, meet}
-use Rattle.gate_core.specs.Relations.{Same, All2, Costs}
+use Rattle.gate_core.specs.Relations.{All2}
+use Rattle.gate_core.proofs.Relating.{Same, Costs}
 use Rattle.gate_core.proofs.Pairs.{Same-times, Same-row, All2-up, All2-at, All2-take, All2-drop, All2-append, All2-replicate}
 use Rattle.gate_core.proofs.Playing.{Costs-times}
 use Rattle.word_circuits.specs.Widths.{log2}

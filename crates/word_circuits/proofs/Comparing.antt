@@ -2,12 +2,12 @@
 use Rattle.std.proofs.Common.{◌≡◌, ℕ, zero, suc, ◌+◌, ◌*◌, ◌-◌, ◌^◌, ◌<◌, ◌≤◌, Bool, true, false, ◌&&◌, not, List, [], ◌∷◌, ◌++◌, length, get_or, take, replicate, refl, ap, ◌∙◌, sym, arith, subst, ◌⊎◌, inl, inr}
 use Rattle.std.proofs.Math.Nat.{pow-suc}
 use Rattle.std.proofs.lemmas.List.{length_push, take_all, length-replicate, length-take-le, ext_get_or, get_or-replicate}
-use Rattle.gate_core.specs.Circuit.{Circuit, then, times, truth, xor}
+use Rattle.gate_core.specs.Circuit.{Circuit, then, times, xor}
+use Rattle.gate_core.proofs.Relating.{truth, Costs}
 use Rattle.gate_core.specs.Circuit.Circuit.{give, meet}
-use Rattle.gate_core.specs.Relations.{Costs}
 use Rattle.gate_core.proofs.Playing.{truth-then, truth-times, Costs-then, Costs-times}
 use Rattle.word_circuits.specs.Integers.{bit, value}
-use Rattle.word_circuits.specs.Chains.{Carried, chain, flips, turned, less_circuit, conjunction, alike, equal_circuit, other, to_bool_circuit}
+use Rattle.word_circuits.specs.Chains.{Carried, chain, flips, biased, less_circuit, conjunction, alike, equal_circuit, other, to_bool_circuit}
 use Rattle.word_circuits.proofs.Values.{value-push, value-more, value-below, value-zeros, value-injective}
 use Rattle.word_circuits.proofs.Adding.{Costs-chain, Costs-flips}
 use Rattle.word_circuits.proofs.Turning.{truth-flips_all, Subtracted, Subtracted-chain}
@@ -35,8 +35,8 @@ pub record Moved (w : ℕ) (x : List Bool) (t : Bool) (r : List Bool) : Type 0 w
   pub len : length r ≡ w
   pub is : value r + 2 ^ w * bit t ≡ value x + 2 ^ (w - 1)
 
-pub truth-turned : (x : List Bool) (d : Bool) (w : ℕ) → 0 < w → length x ≡ w → Moved w x (get_or x (w - 1) d) (truth (turned true w x d))
-truth-turned x d w pos lx =
+pub truth-biased : (x : List Bool) (d : Bool) (w : ℕ) → 0 < w → length x ≡ w → Moved w x (get_or x (w - 1) d) (truth (biased true w x d))
+truth-biased x d w pos lx =
     let t = get_or x (w - 1) d in
     let h = topped x d w pos lx in
     let l : length (take (w - 1) x) ≡ w - 1 = length-take-le (w - 1) x (omega (arith, lx)) in
@@ -65,17 +65,17 @@ pub record Orders (X Y : ℕ) (l : Bool) : Type 0 where
   pub if_false : l ≡ false → Y ≤ X
 
 -- the order of what stands after the top bits were turned
-pub truth-less : (signed : Bool) (x y : List Bool) (w : ℕ) → length (truth (turned signed w x true)) ≡ w → length (truth (turned signed w y true)) ≡ w
-    → (l : Bool) × (truth (less_circuit signed w x y) ≡ l ∷ []) × Orders (value (truth (turned signed w x true))) (value (truth (turned signed w y true))) l
+pub truth-less : (signed : Bool) (x y : List Bool) (w : ℕ) → length (truth (biased signed w x true)) ≡ w → length (truth (biased signed w y true)) ≡ w
+    → (l : Bool) × (truth (less_circuit signed w x y) ≡ l ∷ []) × Orders (value (truth (biased signed w x true))) (value (truth (biased signed w y true))) l
 truth-less signed x y w lu lv =
-    let u = truth (turned signed w x true) in
-    let v = truth (turned signed w y true) in
+    let u = truth (biased signed w x true) in
+    let v = truth (biased signed w y true) in
     let nv = truth (flips v true w) in
     let t = truth-flips_all v true w lv in
     let a = truth (chain u nv true true w) in
     let s : Subtracted u v w a = Subtracted-chain u v nv true w lu t.0 t.1 in
     let whole : truth (less_circuit signed w x y) ≡ not a.carry ∷ [] =
-    truth-then (turned signed w x true) _ ∙ truth-then (turned signed w y true) _ ∙ truth-then (flips v true w) _ ∙ truth-then (chain u nv true true w) _ in
+    truth-then (biased signed w x true) _ ∙ truth-then (biased signed w y true) _ ∙ truth-then (flips v true w) _ ∙ truth-then (chain u nv true true w) _ in
     (not a.carry, whole, record { if_true = λ e. s.unless (not_true a.carry e); if_false = λ e. omega (arith, s.when (not_false a.carry e)) })
 
 -- all of the first n
@@ -167,14 +167,14 @@ truth-to_bool x d w pos lx =
       },
     )
 
-pub Costs-turned : {W : Type 0} (signed : Bool) (w : ℕ) (x : List W) (d : W) → 0 < w → length x ≡ w → Costs (λ (l : List W). length l ≡ w) 0 (turned signed w x d)
-Costs-turned true w x d pos lx = λ t. (refl, (let l = length-take-le (w - 1) x (omega (arith, lx)) in omega (arith, length_push (take (w - 1) x) t, l, pos)))
-Costs-turned false w x d pos lx = (refl, lx)
+pub Costs-biased : {W : Type 0} (signed : Bool) (w : ℕ) (x : List W) (d : W) → 0 < w → length x ≡ w → Costs (λ (l : List W). length l ≡ w) 0 (biased signed w x d)
+Costs-biased true w x d pos lx = λ t. (refl, (let l = length-take-le (w - 1) x (omega (arith, lx)) in omega (arith, length_push (take (w - 1) x) t, l, pos)))
+Costs-biased false w x d pos lx = (refl, lx)
 
 pub Costs-less : {W : Type 0} (signed : Bool) (w : ℕ) (x y : List W) → 0 < w → length x ≡ w → length y ≡ w → Costs (λ (l : List W). length l ≡ 1) w (less_circuit signed w x y)
 Costs-less {W} signed w x y pos lx ly = λ high.
-    Costs-then (λ (l : List W). length l ≡ w) (λ (l : List W). length l ≡ 1) 0 w w (turned signed w x high) _ (omega arith) (Costs-turned signed w x high pos lx)
-    (λ u lu. Costs-then (λ (l : List W). length l ≡ w) (λ (l : List W). length l ≡ 1) 0 w w (turned signed w y high) _ (omega arith) (Costs-turned signed w y high pos ly)
+    Costs-then (λ (l : List W). length l ≡ w) (λ (l : List W). length l ≡ 1) 0 w w (biased signed w x high) _ (omega arith) (Costs-biased signed w x high pos lx)
+    (λ u lu. Costs-then (λ (l : List W). length l ≡ w) (λ (l : List W). length l ≡ 1) 0 w w (biased signed w y high) _ (omega arith) (Costs-biased signed w y high pos ly)
     (λ v lv. Costs-then (λ (l : List W). length l ≡ w) (λ (l : List W). length l ≡ 1) 0 w w (flips v high w) _ (omega arith) (Costs-flips v high w)
     (λ nv ln. Costs-then (λ (b : Carried W). length b.sums ≡ w) (λ (l : List W). length l ≡ 1) w 0 w (chain u nv high high w) _ (omega arith) (Costs-chain u nv high high w)
     (λ a e l. (refl, refl)))))

@@ -3,8 +3,8 @@ use Rattle.std.proofs.Common.{◌≡◌, ℕ, zero, suc, ◌+◌, ◌*◌, ◌/�
 use Rattle.std.proofs.Math.Nat.{pow-suc, pow-le-pow_right}
 use Rattle.std.proofs.lemmas.List.{length_push, length-take-le, length-drop, drop_more, drop_all, length-replicate}
 use Rattle.std.proofs.lemmas.Nat.{div-mul-add, mod-mul-add, mul-le}
-use Rattle.gate_core.specs.Circuit.{times, truth}
-use Rattle.gate_core.specs.Relations.{Costs}
+use Rattle.gate_core.specs.Circuit.{times}
+use Rattle.gate_core.proofs.Relating.{truth, Costs}
 use Rattle.gate_core.proofs.Playing.{truth-then, truth-times, Costs-then, Costs-times}
 use Rattle.word_circuits.specs.Integers.{bit, value}
 use Rattle.word_circuits.specs.Chains.{Carried, chain, flips}

@@ -1,7 +1,8 @@
 -- Divisions over two kinds of wires, and what their calls owe.
 use Rattle.std.proofs.Common.{◌≡◌, ℕ, ◌+◌, ◌-◌, ◌<◌, Bool, true, false, List, [], ◌∷◌, ◌++◌, get_or, take, drop, refl, ◌⊎◌, inl, inr}
 use Rattle.gate_core.specs.Circuit.{times}
-use Rattle.gate_core.specs.Relations.{Same, All2}
+use Rattle.gate_core.specs.Relations.{All2}
+use Rattle.gate_core.proofs.Relating.{Same}
 use Rattle.gate_core.proofs.Pairs.{Same-then, Same-times, All2-up, All2-at, All2-push, All2-take, All2-drop, All2-replicate}
 use Rattle.word_circuits.specs.Chains.{Carried, chain, flips}
 use Rattle.word_circuits.specs.Choices.{choose}

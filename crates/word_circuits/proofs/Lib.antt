@@ -17,3 +17,6 @@ pub mod Dividing
 pub mod Signing
 pub mod DividingPairs
 pub mod DividingPlays
+pub mod Deriving
+pub mod Operating
+pub mod Knowing

@@ -2,12 +2,14 @@
 use Rattle.std.proofs.Common.{◌≡◌, ℕ, zero, suc, ◌+◌, ◌*◌, ◌-◌, ◌%◌, ◌^◌, ◌<◌, ◌≤◌, Bool, true, false, ◌&&◌, ◌*ℤ◌, List, [], ◌∷◌, ◌++◌, length, get_or, take, drop, refl, ap, ◌∙◌, sym, arith, subst, inr}
 use Rattle.std.proofs.lemmas.List.{length_push, take_all, length-append, length-take-le, length-drop}
 use Rattle.std.proofs.lemmas.Nat.{pow-add, mod-mul-add}
-use Rattle.gate_core.specs.Circuit.{Circuit, Calls, Plays, then, times, truth}
+use Rattle.gate_core.specs.Circuit.{Circuit, Calls, Plays, then, times}
+use Rattle.gate_core.proofs.Relating.{truth, Same, Costs}
 use Rattle.gate_core.specs.Circuit.Circuit.{give, meet}
-use Rattle.gate_core.specs.Relations.{Same, Costs, All2}
+use Rattle.gate_core.specs.Relations.{All2}
 use Rattle.gate_core.proofs.Playing.{truth-then, truth-times, truth-row, Costs-then, Plays-then}
 use Rattle.gate_core.proofs.Pairs.{Same-then, Same-times, Same-row, All2-up, All2-at, All2-take, All2-drop, All2-append}
-use Rattle.word_circuits.specs.Integers.{bit, value, residue, wrap}
+use Rattle.oc_values.specs.Integers.{residue, wrap_bits}
+use Rattle.word_circuits.specs.Integers.{number, bit, value}
 use Rattle.word_circuits.specs.Chains.{add_circuit}
 use Rattle.word_circuits.specs.Products.{part, multiply_row, multiply_step, multiply_circuit}
 use Rattle.word_circuits.specs.Fragments.{circuit}
@@ -18,7 +20,7 @@ use Rattle.word_circuits.proofs.Adding.{Sums, truth-sums, Costs-add}
 use Rattle.word_circuits.proofs.AddingPairs.{Same-add}
 use Rattle.word_circuits.proofs.Choosing.{Costs-ands}
 use Rattle.word_circuits.proofs.Shifting.{value-split}
-use Rattle.word_circuits.proofs.Calling.{Uniform, Counted, number, apart}
+use Rattle.word_circuits.proofs.Calling.{Uniform, Counted, apart}
 use Rattle.word_circuits.proofs.Totals.{number_wraps, residue-number}
 
 -- the number of the first n places, where b
@@ -113,14 +115,14 @@ truth-multiply x y d w some lx ly =
     let whole : truth (multiply_circuit w x y d) ≡ truth (times (w - 1) (multiply_step w x y d) p) = truth-then (part x (get_or y 0 d) d w) _ in
     subst (Congruent w (value x * value y)) (sym whole) (subst (λ l. Congruent w (value x * value l) (truth (times (w - 1) (multiply_step w x y d) p))) ey loop)
 
-pub integer-multiply : (signed : Bool) (w : ℕ) → 0 < w → (p q : List Bool) → length p ≡ w → length q ≡ w
-    → number signed (truth (circuit op_multiply w false (p ++ q))) ≡ wrap signed w (number signed p *ℤ number signed q)
-integer-multiply signed w some p q lp lq =
-    let h = truth-multiply p q false w some lp lq in
+pub integer-multiply : (d signed : Bool) (w : ℕ) → 0 < w → (p q : List Bool) → length p ≡ w → length q ≡ w
+    → number signed (truth (circuit op_multiply w d (p ++ q))) ≡ wrap_bits signed w (number signed p *ℤ number signed q)
+integer-multiply d signed w some p q lp lq =
+    let h = truth-multiply p q d w some lp lq in
     let a = residue-number signed w p lp in
     let b = residue-number signed w q lq in
-    ap (λ (c : Circuit Bool (List Bool)). number signed (truth c)) (apart (λ x y. multiply_circuit w x y false) p q w lp)
-    ∙ number_wraps signed w (truth (multiply_circuit w p q false)) (number signed p *ℤ number signed q) h.len
+    ap (λ (c : Circuit Bool (List Bool)). number signed (truth c)) (apart (λ x y. multiply_circuit w x y d) p q w lp)
+    ∙ number_wraps signed w (truth (multiply_circuit w p q d)) (number signed p *ℤ number signed q) h.len
     (Congruent-mod w _ _ h ∙ ap (λ n. (n * value q) % 2 ^ w) (sym a) ∙ ap (λ n. (residue w (number signed p) * n) % 2 ^ w) (sym b) ∙ sym (residue-mul w (number signed p) (number signed q)))
 
 pub Costs-part : {W : Type 0} (x : List W) (b d : W) (n : ℕ) → Costs (λ (ws : List W). length ws ≡ n) n (part x b d n)

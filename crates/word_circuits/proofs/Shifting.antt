@@ -6,17 +6,18 @@ use Rattle.std.proofs.lemmas.Int.{ints}
 use Rattle.std.proofs.lemmas.Bool.{lt-ltb, le-ltb, eqb-true}
 use Rattle.std.proofs.lemmas.List.{take-append-drop, take_all, length-take-le, length-drop, length-replicate, append-nil}
 use Rattle.std.proofs.lemmas.Nat.{pow_pos, pow-add, div-mul-add, mod-mul-add, mul-mod_first, mul-mod_second, shr-shr, shl_below, mul-le, mod-pow-add, mod_low, mod_below}
-use Rattle.gate_core.specs.Circuit.{Calls, Plays, times, truth}
+use Rattle.gate_core.specs.Circuit.{Calls, Plays, times}
+use Rattle.gate_core.proofs.Relating.{truth}
 use Rattle.gate_core.proofs.Playing.{truth-times}
 use Rattle.word_circuits.specs.Widths.{is_width, log2}
-use Rattle.word_circuits.specs.Integers.{bit, value, residue, value_of_bits, wrap, shift, shift_amount}
+use Rattle.oc_values.specs.Integers.{residue, value_of_bits, wrap_bits, shift_amount}
+use Rattle.word_circuits.specs.Integers.{number, bit, value, shift}
 use Rattle.word_circuits.specs.Choices.{moved_in, moved, choose, shift_known_circuit, shift_step, shift_word_circuit, resize_circuit}
 use Rattle.word_circuits.proofs.Values.{value-append, value-more, value-below, value-zeros, mod_small}
 use Rattle.word_circuits.proofs.Whole.{residue_is, lifts, residue-mul}
 use Rattle.word_circuits.proofs.Comparing.{Topped, topped}
 use Rattle.word_circuits.proofs.Choosing.{truth-choose_first}
 use Rattle.word_circuits.proofs.ChoosingPairs.{length-moved, length-resized}
-use Rattle.word_circuits.proofs.Calling.{number}
 use Rattle.word_circuits.proofs.Totals.{number_wraps, residue-number, signed_from_top}
 
 -- the five widths one by one
@@ -218,15 +219,15 @@ Shifted-more false signed w x j c r some h s = record {
 }
 
 -- bits of w places stand for their own integer, wrapped
-pub wrap-number : (signed : Bool) (w : ℕ) (r : List Bool) → length r ≡ w → wrap signed w (number signed r) ≡ number signed r
+pub wrap-number : (signed : Bool) (w : ℕ) (r : List Bool) → length r ≡ w → wrap_bits signed w (number signed r) ≡ number signed r
 wrap-number signed w r l = sym (number_wraps signed w r (number signed r) l (sym (residue-number signed w r l)))
 
 pub Shifted-integer : (left signed : Bool) (w : ℕ) (x : List Bool) (k : ℕ) (r : List Bool) → length x ≡ w → Shifted left signed w x k r
-    → number signed r ≡ wrap signed w (shift left (number signed x) k)
+    → number signed r ≡ wrap_bits signed w (shift left (number signed x) k)
 Shifted-integer true signed w x k r lx s =
     number_wraps signed w r (number signed x *ℤ pos (2 ^ k)) s.len
     (s.to_left refl ∙ sym (mul-mod_second (value x) (2 ^ k) (2 ^ w)) ∙ ap (λ n. (n * (2 ^ k % 2 ^ w)) % 2 ^ w) (sym (residue-number signed w x lx)) ∙ sym (residue-mul w (number signed x) (pos (2 ^ k))))
-Shifted-integer false signed w x k r lx s = sym (wrap-number signed w r s.len) ∙ ap (wrap signed w) (s.to_right refl)
+Shifted-integer false signed w x k r lx s = sym (wrap-number signed w r s.len) ∙ ap (wrap_bits signed w) (s.to_right refl)
 
 -- a shift where the bit is true
 Shifted-choice : (e left signed : Bool) (w : ℕ) (x : List Bool) (j k : ℕ) (r m : List Bool) → Shifted left signed w x j r → Shifted left signed w x (j + 2 ^ k) m
@@ -279,13 +280,13 @@ amount_value kind w m wide lm =
     value-take m l (omega (arith, le, lm)) ∙ ap (λ n. n % 2 ^ l) (sym (residue-number kind w m lm)) ∙ residue-low w l (number kind m) le ∙ sym (amount_residue l w (number kind m) e)
 
 pub integer-shift_word : (left signed kind : Bool) (w : ℕ) → IsTrue (is_width w) → 0 < w → (p q : List Bool) → length p ≡ w → length q ≡ w
-    → number signed (truth (shift_word_circuit left signed w p q)) ≡ wrap signed w (shift left (number signed p) (shift_amount w (number kind q)))
+    → number signed (truth (shift_word_circuit left signed w p q)) ≡ wrap_bits signed w (shift left (number signed p) (shift_amount w (number kind q)))
 integer-shift_word left signed kind w wide some p q lp lq =
     Shifted-integer left signed w p (value (take (log2 w) q)) _ lp (truth-shift left signed w p q wide some lp lq)
-    ∙ ap (λ k. wrap signed w (shift left (number signed p) k)) (amount_value kind w q wide lq)
+    ∙ ap (λ k. wrap_bits signed w (shift left (number signed p) k)) (amount_value kind w q wide lq)
 
 pub integer-shift_known : (left signed : Bool) (w amount : ℕ) → 0 < w → (p : List Bool) → length p ≡ w
-    → number signed (truth (shift_known_circuit left signed w amount p)) ≡ wrap signed w (shift left (number signed p) (amount % w))
+    → number signed (truth (shift_known_circuit left signed w amount p)) ≡ wrap_bits signed w (shift left (number signed p) (amount % w))
 integer-shift_known left signed w amount some p lp =
     let c = amount % w in
     let h : c < w = mod_below amount w some in
@@ -348,7 +349,7 @@ value-resized signed v w x some lx = go (leb_or v w)
     go (inr h) = wider signed h
 
 pub integer-resize : (signed kind : Bool) (v w : ℕ) → 0 < w → (p : List Bool) → length p ≡ w
-    → number kind (truth (resize_circuit signed v w p)) ≡ wrap kind v (number signed p)
+    → number kind (truth (resize_circuit signed v w p)) ≡ wrap_bits kind v (number signed p)
 integer-resize signed kind v w some p lp =
     number_wraps kind v _ (number signed p) (length-resized v w (moved_in false signed w p false) p lp) (value-resized signed v w p some lp)
 

@@ -4,11 +4,12 @@ use Rattle.std.proofs.Math.Nat.{pow-suc, div-le_self}
 use Rattle.std.proofs.lemmas.Int.{ints}
 use Rattle.std.proofs.lemmas.List.{length_push, take_all}
 use Rattle.std.proofs.lemmas.Nat.{mod-mul-add, pow_pos}
-use Rattle.gate_core.specs.Circuit.{Circuit, times, truth, xor}
+use Rattle.gate_core.specs.Circuit.{Circuit, times, xor}
+use Rattle.gate_core.proofs.Relating.{truth, Costs}
 use Rattle.gate_core.specs.Circuit.Circuit.{give, join}
-use Rattle.gate_core.specs.Relations.{Costs}
 use Rattle.gate_core.proofs.Playing.{truth-then, truth-times, Costs-then, Costs-times}
-use Rattle.word_circuits.specs.Integers.{bit, value, residue, value_of_bits, wrap, quotient, remainder}
+use Rattle.oc_values.specs.Integers.{residue, value_of_bits, wrap_bits, quotient, remainder}
+use Rattle.word_circuits.specs.Integers.{number, bit, value}
 use Rattle.word_circuits.specs.Chains.{Carried}
 use Rattle.word_circuits.specs.Divisions.{Divided, divide_circuit, negate_step, cond_negate, divide_sizes, quotient_circuit, remainder_circuit}
 use Rattle.word_circuits.specs.Fragments.{circuit}
@@ -17,7 +18,7 @@ use Rattle.word_circuits.proofs.Values.{value-push, value-more, value-below, mod
 use Rattle.word_circuits.proofs.Whole.{residue-neg}
 use Rattle.word_circuits.proofs.Comparing.{topped}
 use Rattle.word_circuits.proofs.Dividing.{Divides, truth-divides, quotient_of, remainder_of, Wide, Costs-divide}
-use Rattle.word_circuits.proofs.Calling.{number, apart}
+use Rattle.word_circuits.proofs.Calling.{apart}
 use Rattle.word_circuits.proofs.Totals.{number_wraps, signed_from_top}
 
 -- what is known after n places: the low places of x, or of 2^n less them
@@ -235,51 +236,51 @@ plain-remainder : (w a b : ℕ) → a < 2 ^ w → remainder_of a b ≡ residue w
 plain-remainder w a zero h = residue-pos w a h
 plain-remainder w a (suc b) h = residue-pos w (a % suc b) (let q = mod_le a b in omega (arith, h, q))
 
-pub integer-quotient : (signed : Bool) (w : ℕ) → 0 < w → (p q : List Bool) → length p ≡ w → length q ≡ w
-    → number signed (truth (circuit (op_quotient signed) w false (p ++ q))) ≡ wrap signed w (quotient signed (number signed p) (number signed q))
-integer-quotient false w some p q lp lq =
+pub integer-quotient : (d signed : Bool) (w : ℕ) → 0 < w → (p q : List Bool) → length p ≡ w → length q ≡ w
+    → number signed (truth (circuit (op_quotient signed) w d (p ++ q))) ≡ wrap_bits signed w (quotient signed (number signed p) (number signed q))
+integer-quotient d false w some p q lp lq =
     let h = truth-divides p q w lp lq in
     let r = truth (divide_circuit w p q) in
-    let whole : truth (quotient_circuit false w p q false) ≡ r.quotient = truth-then (divide_circuit w p q) (λ a. give a.quotient) in
-    ap (λ (c : Circuit Bool (List Bool)). number false (truth c)) (apart (λ x y. quotient_circuit false w x y false) p q w lp)
+    let whole : truth (quotient_circuit false w p q d) ≡ r.quotient = truth-then (divide_circuit w p q) (λ a. give a.quotient) in
+    ap (λ (c : Circuit Bool (List Bool)). number false (truth c)) (apart (λ x y. quotient_circuit false w x y d) p q w lp)
     ∙ ap (number false) whole
     ∙ number_wraps false w r.quotient (quotient false (number false p) (number false q)) h.quotient_len (h.quotient ∙ plain-quotient w (value p) (value q) (value-below p w lp))
-integer-quotient true w some p q lp lq =
-    let s = get_or p (w - 1) false in
-    let t = get_or q (w - 1) false in
-    let h = truth-divide_sizes p q false w some lp lq in
-    let r = truth (divide_sizes w p q false) in
-    let n = truth-cond_negate r.quotient (xor s t) false w some h.quotient_len in
-    let whole : truth (quotient_circuit true w p q false) ≡ truth (cond_negate w (xor s t) r.quotient false) = truth-then (divide_sizes w p q false) (λ a. join s t (λ z. cond_negate w z a.quotient false)) in
-    ap (λ (c : Circuit Bool (List Bool)). number true (truth c)) (apart (λ x y. quotient_circuit true w x y false) p q w lp)
+integer-quotient d true w some p q lp lq =
+    let s = get_or p (w - 1) d in
+    let t = get_or q (w - 1) d in
+    let h = truth-divide_sizes p q d w some lp lq in
+    let r = truth (divide_sizes w p q d) in
+    let n = truth-cond_negate r.quotient (xor s t) d w some h.quotient_len in
+    let whole : truth (quotient_circuit true w p q d) ≡ truth (cond_negate w (xor s t) r.quotient d) = truth-then (divide_sizes w p q d) (λ a. join s t (λ z. cond_negate w z a.quotient d)) in
+    ap (λ (c : Circuit Bool (List Bool)). number true (truth c)) (apart (λ x y. quotient_circuit true w x y d) p q w lp)
     ∙ ap (number true) whole
-    ∙ number_wraps true w (truth (cond_negate w (xor s t) r.quotient false)) (quotient true (number true p) (number true q)) n.0
+    ∙ number_wraps true w (truth (cond_negate w (xor s t) r.quotient d)) (quotient true (number true p) (number true q)) n.0
     (n.1 ∙ ap (λ k. turned_by w (xor s t) k) h.quotient
-    ∙ signed-quotient w (value p) (value q) s t (value-below p w lp) (value-below q w lq) (top_some p false w some lp) (top_some q false w some lq)
-    ∙ ap (λ k. residue w (quotient true k (signed_by w t (value q)))) (sym (number-signed p false w some lp)) ∙ ap (λ k. residue w (quotient true (number true p) k)) (sym (number-signed q false w some lq)))
+    ∙ signed-quotient w (value p) (value q) s t (value-below p w lp) (value-below q w lq) (top_some p d w some lp) (top_some q d w some lq)
+    ∙ ap (λ k. residue w (quotient true k (signed_by w t (value q)))) (sym (number-signed p d w some lp)) ∙ ap (λ k. residue w (quotient true (number true p) k)) (sym (number-signed q d w some lq)))
 
-pub integer-remainder : (signed : Bool) (w : ℕ) → 0 < w → (p q : List Bool) → length p ≡ w → length q ≡ w
-    → number signed (truth (circuit (op_remainder signed) w false (p ++ q))) ≡ wrap signed w (remainder (number signed p) (number signed q))
-integer-remainder false w some p q lp lq =
+pub integer-remainder : (d signed : Bool) (w : ℕ) → 0 < w → (p q : List Bool) → length p ≡ w → length q ≡ w
+    → number signed (truth (circuit (op_remainder signed) w d (p ++ q))) ≡ wrap_bits signed w (remainder (number signed p) (number signed q))
+integer-remainder d false w some p q lp lq =
     let h = truth-divides p q w lp lq in
     let r = truth (divide_circuit w p q) in
-    let whole : truth (remainder_circuit false w p q false) ≡ r.rest = truth-then (divide_circuit w p q) (λ a. give a.rest) in
-    ap (λ (c : Circuit Bool (List Bool)). number false (truth c)) (apart (λ x y. remainder_circuit false w x y false) p q w lp)
+    let whole : truth (remainder_circuit false w p q d) ≡ r.rest = truth-then (divide_circuit w p q) (λ a. give a.rest) in
+    ap (λ (c : Circuit Bool (List Bool)). number false (truth c)) (apart (λ x y. remainder_circuit false w x y d) p q w lp)
     ∙ ap (number false) whole
     ∙ number_wraps false w r.rest (remainder (number false p) (number false q)) h.rest_len (h.rest ∙ plain-remainder w (value p) (value q) (value-below p w lp))
-integer-remainder true w some p q lp lq =
-    let s = get_or p (w - 1) false in
-    let t = get_or q (w - 1) false in
-    let h = truth-divide_sizes p q false w some lp lq in
-    let r = truth (divide_sizes w p q false) in
-    let n = truth-cond_negate r.rest s false w some h.rest_len in
-    let whole : truth (remainder_circuit true w p q false) ≡ truth (cond_negate w s r.rest false) = truth-then (divide_sizes w p q false) (λ a. cond_negate w s a.rest false) in
-    ap (λ (c : Circuit Bool (List Bool)). number true (truth c)) (apart (λ x y. remainder_circuit true w x y false) p q w lp)
+integer-remainder d true w some p q lp lq =
+    let s = get_or p (w - 1) d in
+    let t = get_or q (w - 1) d in
+    let h = truth-divide_sizes p q d w some lp lq in
+    let r = truth (divide_sizes w p q d) in
+    let n = truth-cond_negate r.rest s d w some h.rest_len in
+    let whole : truth (remainder_circuit true w p q d) ≡ truth (cond_negate w s r.rest d) = truth-then (divide_sizes w p q d) (λ a. cond_negate w s a.rest d) in
+    ap (λ (c : Circuit Bool (List Bool)). number true (truth c)) (apart (λ x y. remainder_circuit true w x y d) p q w lp)
     ∙ ap (number true) whole
-    ∙ number_wraps true w (truth (cond_negate w s r.rest false)) (remainder (number true p) (number true q)) n.0
+    ∙ number_wraps true w (truth (cond_negate w s r.rest d)) (remainder (number true p) (number true q)) n.0
     (n.1 ∙ ap (λ k. turned_by w s k) h.rest
-    ∙ signed-remainder w (value p) (value q) s t (value-below p w lp) (value-below q w lq) (top_some p false w some lp) (top_some q false w some lq)
-    ∙ ap (λ k. residue w (remainder k (signed_by w t (value q)))) (sym (number-signed p false w some lp)) ∙ ap (λ k. residue w (remainder (number true p) k)) (sym (number-signed q false w some lq)))
+    ∙ signed-remainder w (value p) (value q) s t (value-below p w lp) (value-below q w lq) (top_some p d w some lp) (top_some q d w some lq)
+    ∙ ap (λ k. residue w (remainder k (signed_by w t (value q)))) (sym (number-signed p d w some lp)) ∙ ap (λ k. residue w (remainder (number true p) k)) (sym (number-signed q d w some lq)))
 
 -- the ANDs of a conditional negation
 pub Costs-negate_steps : {W : Type 0} (x : List W) (b d : W) (n : ℕ) → Costs (λ (a : Carried W). length a.sums ≡ n) n (times n (negate_step x b d) (record { sums = []; carry = b }))

@@ -3,8 +3,10 @@ use Rattle.std.proofs.Common.{◌≡◌, ℕ, zero, suc, ◌+◌, ◌*◌, ◌-�
 use Rattle.std.proofs.lemmas.Int.{ints}
 use Rattle.std.proofs.lemmas.Bool.{lt-ltb, le-ltb}
 use Rattle.std.proofs.lemmas.Nat.{pow_pos}
-use Rattle.gate_core.specs.Circuit.{Circuit, truth}
-use Rattle.word_circuits.specs.Integers.{bit, value, residue, value_of_bits, wrap, is_zero, number_of}
+use Rattle.gate_core.specs.Circuit.{Circuit}
+use Rattle.gate_core.proofs.Relating.{truth}
+use Rattle.oc_values.specs.Integers.{residue, value_of_bits, wrap_bits, is_zero, number_of}
+use Rattle.word_circuits.specs.Integers.{number, bit, value}
 use Rattle.word_circuits.specs.Chains.{add_circuit, subtract_circuit, negate_circuit, less_circuit, equal_circuit}
 use Rattle.word_circuits.specs.Fragments.{circuit}
 use Rattle.word_circuits.specs.Fragments.Operation.{op_add, op_subtract, op_negate, op_less, op_equal, op_to_bool}
@@ -12,11 +14,11 @@ use Rattle.word_circuits.proofs.Values.{value-below}
 use Rattle.word_circuits.proofs.Whole.{residue-value, residue-add, residue-sub, residue-neg}
 use Rattle.word_circuits.proofs.Adding.{Sums-mod, truth-sums}
 use Rattle.word_circuits.proofs.Turning.{truth-subtract, truth-negate}
-use Rattle.word_circuits.proofs.Comparing.{Topped, topped, Moved, truth-turned, Orders, truth-less, truth-equal, truth-to_bool}
-use Rattle.word_circuits.proofs.Calling.{number, apart}
+use Rattle.word_circuits.proofs.Comparing.{Topped, topped, Moved, truth-biased, Orders, truth-less, truth-equal, truth-to_bool}
+use Rattle.word_circuits.proofs.Calling.{apart}
 
 -- bits that spell what is left of an integer stand for the integer, wrapped
-pub number_wraps : (signed : Bool) (w : ℕ) (r : List Bool) (z : ℤ) → length r ≡ w → value r ≡ residue w z → number signed r ≡ wrap signed w z
+pub number_wraps : (signed : Bool) (w : ℕ) (r : List Bool) (z : ℤ) → length r ≡ w → value r ≡ residue w z → number signed r ≡ wrap_bits signed w z
 number_wraps signed w r z l e = ap (λ n. value_of_bits signed n (value r)) l ∙ ap (λ n. value_of_bits signed w n) e
 
 -- and what is left of an integer that bits stand for is what they spell
@@ -24,7 +26,7 @@ pub residue-number : (signed : Bool) (w : ℕ) (p : List Bool) → length p ≡ 
 residue-number signed w p l = ap (λ n. residue w (value_of_bits signed n (value p))) l ∙ residue-value signed w (value p) (value-below p w l)
 
 pub integer-add : (signed : Bool) (w : ℕ) → 0 < w → (p q : List Bool) → length p ≡ w → length q ≡ w
-    → number signed (truth (circuit op_add w false (p ++ q))) ≡ wrap signed w (number signed p +ℤ number signed q)
+    → number signed (truth (circuit op_add w false (p ++ q))) ≡ wrap_bits signed w (number signed p +ℤ number signed q)
 integer-add signed w some p q lp lq =
     let h = truth-sums p q false w some lp lq in
     let e : value p + value q + 0 ≡ residue w (number signed p) + residue w (number signed q) = (let a = residue-number signed w p lp in let b = residue-number signed w q lq in omega (arith, a, b)) in
@@ -33,7 +35,7 @@ integer-add signed w some p q lp lq =
     (Sums-mod w _ _ h ∙ ap (λ n. n % 2 ^ w) e ∙ sym (residue-add w (number signed p) (number signed q)))
 
 pub integer-subtract : (signed : Bool) (w : ℕ) → 0 < w → (p q : List Bool) → length p ≡ w → length q ≡ w
-    → number signed (truth (circuit op_subtract w false (p ++ q))) ≡ wrap signed w (number signed p -ℤ number signed q)
+    → number signed (truth (circuit op_subtract w false (p ++ q))) ≡ wrap_bits signed w (number signed p -ℤ number signed q)
 integer-subtract signed w some p q lp lq =
     let h = truth-subtract p q w some lp lq in
     let a = residue-number signed w p lp in
@@ -43,7 +45,7 @@ integer-subtract signed w some p q lp lq =
     (h.1 ∙ ap (λ n. (n + (2 ^ w - value q)) % 2 ^ w) (sym a) ∙ ap (λ n. (residue w (number signed p) + (2 ^ w - n)) % 2 ^ w) (sym b) ∙ sym (residue-sub w (number signed p) (number signed q)))
 
 pub integer-negate : (signed : Bool) (w : ℕ) → 0 < w → (p : List Bool) → length p ≡ w
-    → number signed (truth (circuit op_negate w false p)) ≡ wrap signed w (neg_ℤ (number signed p))
+    → number signed (truth (circuit op_negate w false p)) ≡ wrap_bits signed w (neg_ℤ (number signed p))
 integer-negate signed w some p lp =
     let h = truth-negate p w some lp in
     let a = residue-number signed w p lp in
@@ -87,8 +89,8 @@ plus_zero n = omega (arith, ints)
 pub integer-less : (signed : Bool) (w : ℕ) → 0 < w → (p q : List Bool) → length p ≡ w → length q ≡ w
     → number false (truth (circuit (op_less signed) w false (p ++ q))) ≡ number_of (int_lt (number signed p) (number signed q))
 integer-less true w some p q lp lq =
-    let mp = truth-turned p true w some lp in
-    let mq = truth-turned q true w some lq in
+    let mp = truth-biased p true w some lp in
+    let mq = truth-biased q true w some lq in
     let h = truth-less true p q w mp.len mq.len in
     ap (λ (c : Circuit Bool (List Bool)). number false (truth c)) (apart (λ x y. less_circuit true w x y) p q w lp)
     ∙ ap (number false) h.1 ∙ number-bit h.0
@@ -115,13 +117,13 @@ equal_from a b e = omega (arith, ints)
 less_self : (a : ℤ) → a -ℤ a ≡ pos 0
 less_self a = omega (arith, ints)
 
-pub integer-equal : (signed : Bool) (w : ℕ) → 0 < w → (p q : List Bool) → length p ≡ w → length q ≡ w
-    → number false (truth (circuit op_equal w false (p ++ q))) ≡ number_of (is_zero (number signed p -ℤ number signed q))
-integer-equal signed w some p q lp lq =
-    let h = truth-equal p q false w some lp lq in
+pub integer-equal : (d signed : Bool) (w : ℕ) → 0 < w → (p q : List Bool) → length p ≡ w → length q ≡ w
+    → number false (truth (circuit op_equal w d (p ++ q))) ≡ number_of (is_zero (number signed p -ℤ number signed q))
+integer-equal d signed w some p q lp lq =
+    let h = truth-equal p q d w some lp lq in
     let a = number signed p in
     let b = number signed q in
-    ap (λ (c : Circuit Bool (List Bool)). number false (truth c)) (apart (λ x y. equal_circuit w x y false) p q w lp)
+    ap (λ (c : Circuit Bool (List Bool)). number false (truth c)) (apart (λ x y. equal_circuit w x y d) p q w lp)
     ∙ ap (number false) h.1 ∙ number-bit h.0
     ∙ ap number_of (same_test h.0 (is_zero (a -ℤ b))
     (λ e. let ab : a ≡ b = ap (λ n. value_of_bits signed (length p) n) (h.2.if_true e) ∙ ap (λ n. value_of_bits signed n (value q)) (lp ∙ sym lq) in
@@ -135,10 +137,10 @@ number-zero false w = refl
 residue-zero : (w : ℕ) → residue w (pos 0) ≡ 0
 residue-zero w = residue-value false w 0 (pow_pos w)
 
-pub integer-to_bool : (signed : Bool) (w : ℕ) → 0 < w → (p : List Bool) → length p ≡ w
-    → number false (truth (circuit op_to_bool w false p)) ≡ number_of (not (is_zero (number signed p)))
-integer-to_bool signed w some p lp =
-    let h = truth-to_bool p false w some lp in
+pub integer-to_bool : (d signed : Bool) (w : ℕ) → 0 < w → (p : List Bool) → length p ≡ w
+    → number false (truth (circuit op_to_bool w d p)) ≡ number_of (not (is_zero (number signed p)))
+integer-to_bool d signed w some p lp =
+    let h = truth-to_bool p d w some lp in
     let a = number signed p in
     ap (number false) h.1 ∙ number-bit (not h.0)
     ∙ ap (λ b. number_of (not b)) (same_test h.0 (is_zero a)

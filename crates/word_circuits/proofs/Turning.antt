@@ -2,7 +2,7 @@
 use Rattle.std.proofs.Common.{◌≡◌, ℕ, suc, ◌+◌, ◌*◌, ◌-◌, ◌%◌, ◌^◌, ◌<◌, ◌≤◌, Bool, true, false, not, List, [], ◌∷◌, ◌++◌, length, get_or, take, replicate, refl, ap, ◌∙◌, arith}
 use Rattle.std.proofs.Math.Nat.{pow-suc}
 use Rattle.std.proofs.lemmas.List.{length_push, take_all, length-replicate}
-use Rattle.gate_core.specs.Circuit.{truth}
+use Rattle.gate_core.proofs.Relating.{truth}
 use Rattle.gate_core.specs.Circuit.Circuit.{give, flip}
 use Rattle.gate_core.proofs.Playing.{truth-then, truth-row}
 use Rattle.word_circuits.specs.Integers.{bit, value}

@@ -3,7 +3,7 @@ use Rattle.std.proofs.Common.{◌≡◌, ℕ, zero, suc, ◌+◌, ◌*◌, ◌-�
 use Rattle.std.specs.Int.{int_rem_euclid}
 use Rattle.std.proofs.lemmas.Int.{ints, int_rem_euclid_is}
 use Rattle.std.proofs.lemmas.Nat.{pow_pos, mod_below, mod-mul-add, div-add-mod', mul-le, mul-mod, mul-mod_first}
-use Rattle.word_circuits.specs.Integers.{residue, value_of_bits}
+use Rattle.oc_values.specs.Integers.{residue, value_of_bits}
 use Rattle.word_circuits.proofs.Values.{mod_small}
 
 pub residue-below : (w : ℕ) (z : ℤ) → residue w z < 2 ^ w

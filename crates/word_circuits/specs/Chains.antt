@@ -45,13 +45,13 @@ abbrev pub negate_circuit : {W : Type 0} → ℕ → List W → Circuit W (List 
 negate_circuit w x = known false (λ low. subtract_circuit w (replicate w low) x)
 
 -- a word whose top bit is turned where it has a sign
-abbrev pub turned : {W : Type 0} → Bool → ℕ → List W → W → Circuit W (List W)
-turned true w x d = flip (get_or x (w - 1) d) (λ t. give (take (w - 1) x ++ t ∷ []))
-turned false w x d = give x
+abbrev pub biased : {W : Type 0} → Bool → ℕ → List W → W → Circuit W (List W)
+biased true w x d = flip (get_or x (w - 1) d) (λ t. give (take (w - 1) x ++ t ∷ []))
+biased false w x d = give x
 
 -- whether x is below y: their difference borrows
 abbrev pub less_circuit : {W : Type 0} → Bool → ℕ → List W → List W → Circuit W (List W)
-less_circuit signed w x y = known true (λ high. then (turned signed w x high) (λ u. then (turned signed w y high) (λ v.
+less_circuit signed w x y = known true (λ high. then (biased signed w x high) (λ u. then (biased signed w y high) (λ v.
     then (flips v high w) (λ nv. then (chain u nv high high w) (λ a. flip a.carry (λ l. give (l ∷ [])))))))
 
 -- whether all of w wires are true, each made by a circuit
@@ -73,3 +73,7 @@ other x d i = flip (get_or x i d) (λ z. give z)
 -- whether a word of w wires isn't 0, as a word of one wire
 abbrev pub to_bool_circuit : {W : Type 0} → ℕ → List W → W → Circuit W (List W)
 to_bool_circuit w x d = then (conjunction (other x d) w) (λ t. flip t (λ r. give (r ∷ [])))
+
+-- the other bit of the first wire of a word, as a word of one wire; d is for a wire that isn't there
+abbrev pub other_word : {W : Type 0} → W → List W → Circuit W (List W)
+other_word d x = flip (get_or x 0 d) (λ r. give (r ∷ []))

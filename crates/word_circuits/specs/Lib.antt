@@ -5,3 +5,5 @@ pub mod Choices
 pub mod Products
 pub mod Divisions
 pub mod Fragments
+pub mod Operators
+pub mod Known

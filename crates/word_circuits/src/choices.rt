@@ -1,14 +1,14 @@
 //! Operations bit by bit, and the choice between two words.
 
-ghost use Rattle.std.specs.Prelude.{◌≡◌, ◌<◌, ◌≤◌, ◌+◌, ◌++◌, ◌∷◌, length, ℤ, ◌-ℤ◌, negsuc, bit_and, bit_or, bit_xor, Bool, if◌then◌else◌};
+ghost use Rattle.std.specs.Prelude.{◌≡◌, ◌<◌, ◌≤◌, ◌+◌, ◌++◌, ◌∷◌, length, ℤ, Bool, if◌then◌else◌};
 ghost use Rattle.gate_core.specs.Circuit.{Plays};
-ghost use Rattle.gate_core.specs.GateList.{PlaysGates};
-ghost use Rattle.gate_core.specs.Laws.{Rises};
+ghost use Rattle.gate_core.specs.Laws.{HasRoom};
 ghost use Rattle.word_circuits.specs.Choices.{meet_circuit, either_bit, either_circuit, differ_circuit, choose_bit, choose};
-ghost use Rattle.word_circuits.specs.Integers.{Means, wrap, combine};
-ghost use Rattle.word_circuits.specs.Fragments.{fragment, ands_of};
+ghost use Rattle.oc_values.specs.declared.integers.BinaryOp.TheVariants.{And, Or, Xor};
+ghost use Rattle.oc_values.specs.Integers.{operate_bits, flip_bits};
+ghost use Rattle.word_circuits.specs.Integers.{Means};
+ghost use Rattle.word_circuits.specs.Fragments.{Performs, Affords};
 ghost use Rattle.word_circuits.specs.Fragments.Operation.{op_meet, op_either, op_differ, op_flip, op_select};
-ghost use Rattle.word_circuits.specs.declared.operation.WordOp.TheVariants.{Meet, Either, Differ, Flip, Select};
 
 use crate::Word;
 use crate::carries::flip_wires;
@@ -19,13 +19,10 @@ use gate_core::Gates;
 /// The bits that are 1 in both words.
 pub fn meet<G: Gates>(gates: &mut G, x: &Word<G::Wire>, y: &Word<G::Wire>) -> Word<G::Wire>
     requires same { length x.now ≡ length y.now }
-    requires room { ands_of Meet (length x.now) ≤ G.room gates.old }
-    ensures plays { PlaysGates G.calls (fragment op_meet (length x.now)) (x.now ++ y.now) gates.old result gates.new }
-    ensures means { (signed : Bool) (a b : ℤ) → Means (G.stands gates.old) signed x.now a → Means (G.stands gates.old) signed y.now b → Means (G.stands gates.new) signed result (combine signed (length x.now) bit_and a b) }
-    ensures made { Rises (G.made gates.old) (ands_of Meet (length x.now)) (G.made gates.new) }
-    ensures room { G.room gates.old ≤ G.room gates.new + ands_of Meet (length x.now) }
+    requires room { Affords G.room gates.old op_meet (length x.now) }
+    ensures performs { Performs G.calls G.stands G.made G.room op_meet (length x.now) (x.now ++ y.now) gates.old result gates.new }
+    ensures means { (signed : Bool) (a b : ℤ) → Means (G.stands gates.old) signed x.now a → Means (G.stands gates.old) signed y.now b → Means (G.stands gates.new) signed result (operate_bits And signed (length x.now) a b) }
     ensures width { length result ≡ length x.now }
-    ensures keeps { (w : G.Wire) (b : Bool) → G.stands gates.old w b → G.stands gates.new w b }
 {
     Word::of_array(meet_wires(gates, x.wires(), y.wires()))
 }
@@ -33,13 +30,10 @@ pub fn meet<G: Gates>(gates: &mut G, x: &Word<G::Wire>, y: &Word<G::Wire>) -> Wo
 /// The bits that are 1 in either word.
 pub fn either<G: Gates>(gates: &mut G, x: &Word<G::Wire>, y: &Word<G::Wire>) -> Word<G::Wire>
     requires same { length x.now ≡ length y.now }
-    requires room { ands_of Either (length x.now) ≤ G.room gates.old }
-    ensures plays { PlaysGates G.calls (fragment op_either (length x.now)) (x.now ++ y.now) gates.old result gates.new }
-    ensures means { (signed : Bool) (a b : ℤ) → Means (G.stands gates.old) signed x.now a → Means (G.stands gates.old) signed y.now b → Means (G.stands gates.new) signed result (combine signed (length x.now) bit_or a b) }
-    ensures made { Rises (G.made gates.old) (ands_of Either (length x.now)) (G.made gates.new) }
-    ensures room { G.room gates.old ≤ G.room gates.new + ands_of Either (length x.now) }
+    requires room { Affords G.room gates.old op_either (length x.now) }
+    ensures performs { Performs G.calls G.stands G.made G.room op_either (length x.now) (x.now ++ y.now) gates.old result gates.new }
+    ensures means { (signed : Bool) (a b : ℤ) → Means (G.stands gates.old) signed x.now a → Means (G.stands gates.old) signed y.now b → Means (G.stands gates.new) signed result (operate_bits Or signed (length x.now) a b) }
     ensures width { length result ≡ length x.now }
-    ensures keeps { (w : G.Wire) (b : Bool) → G.stands gates.old w b → G.stands gates.new w b }
 {
     Word::of_array(either_wires(gates, x.wires(), y.wires()))
 }
@@ -47,26 +41,20 @@ pub fn either<G: Gates>(gates: &mut G, x: &Word<G::Wire>, y: &Word<G::Wire>) -> 
 /// The bits in which two words differ.
 pub fn differ<G: Gates>(gates: &mut G, x: &Word<G::Wire>, y: &Word<G::Wire>) -> Word<G::Wire>
     requires same { length x.now ≡ length y.now }
-    requires room { ands_of Differ (length x.now) ≤ G.room gates.old }
-    ensures plays { PlaysGates G.calls (fragment op_differ (length x.now)) (x.now ++ y.now) gates.old result gates.new }
-    ensures means { (signed : Bool) (a b : ℤ) → Means (G.stands gates.old) signed x.now a → Means (G.stands gates.old) signed y.now b → Means (G.stands gates.new) signed result (combine signed (length x.now) bit_xor a b) }
-    ensures made { Rises (G.made gates.old) (ands_of Differ (length x.now)) (G.made gates.new) }
-    ensures room { G.room gates.old ≤ G.room gates.new + ands_of Differ (length x.now) }
+    requires room { Affords G.room gates.old op_differ (length x.now) }
+    ensures performs { Performs G.calls G.stands G.made G.room op_differ (length x.now) (x.now ++ y.now) gates.old result gates.new }
+    ensures means { (signed : Bool) (a b : ℤ) → Means (G.stands gates.old) signed x.now a → Means (G.stands gates.old) signed y.now b → Means (G.stands gates.new) signed result (operate_bits Xor signed (length x.now) a b) }
     ensures width { length result ≡ length x.now }
-    ensures keeps { (w : G.Wire) (b : Bool) → G.stands gates.old w b → G.stands gates.new w b }
 {
     Word::of_array(differ_wires(gates, x.wires(), y.wires()))
 }
 
 /// Every bit turned: -1 less the word.
 pub fn flip<G: Gates>(gates: &mut G, x: &Word<G::Wire>) -> Word<G::Wire>
-    requires { ands_of Flip (length x.now) ≤ G.room gates.old }
-    ensures plays { PlaysGates G.calls (fragment op_flip (length x.now)) x.now gates.old result gates.new }
-    ensures means { (signed : Bool) (a : ℤ) → Means (G.stands gates.old) signed x.now a → Means (G.stands gates.new) signed result (wrap signed (length x.now) (negsuc 0 -ℤ a)) }
-    ensures made { Rises (G.made gates.old) (ands_of Flip (length x.now)) (G.made gates.new) }
-    ensures room { G.room gates.old ≤ G.room gates.new + ands_of Flip (length x.now) }
+    requires { Affords G.room gates.old op_flip (length x.now) }
+    ensures performs { Performs G.calls G.stands G.made G.room op_flip (length x.now) x.now gates.old result gates.new }
+    ensures means { (signed : Bool) (a : ℤ) → Means (G.stands gates.old) signed x.now a → Means (G.stands gates.new) signed result (flip_bits signed (length x.now) a) }
     ensures width { length result ≡ length x.now }
-    ensures keeps { (w : G.Wire) (b : Bool) → G.stands gates.old w b → G.stands gates.new w b }
 {
     Word::of_array(flip_wires(gates, x.wires(), x.width()))
 }
@@ -79,13 +67,10 @@ pub fn select<G: Gates>(
     old: &Word<G::Wire>,
 ) -> Word<G::Wire>
     requires same { length new.now ≡ length old.now }
-    requires room { ands_of Select (length new.now) ≤ G.room gates.old }
-    ensures plays { PlaysGates G.calls (fragment op_select (length new.now)) (e ∷ (new.now ++ old.now)) gates.old result gates.new }
+    requires room { Affords G.room gates.old op_select (length new.now) }
+    ensures performs { Performs G.calls G.stands G.made G.room op_select (length new.now) (e ∷ (new.now ++ old.now)) gates.old result gates.new }
     ensures means { (signed chosen : Bool) (a b : ℤ) → G.stands gates.old e chosen → Means (G.stands gates.old) signed new.now a → Means (G.stands gates.old) signed old.now b → Means (G.stands gates.new) signed result (if chosen then a else b) }
-    ensures made { Rises (G.made gates.old) (ands_of Select (length new.now)) (G.made gates.new) }
-    ensures room { G.room gates.old ≤ G.room gates.new + ands_of Select (length new.now) }
     ensures width { length result ≡ length new.now }
-    ensures keeps { (w : G.Wire) (b : Bool) → G.stands gates.old w b → G.stands gates.new w b }
 {
     let last = old.wires();
     Word::of_array(choose_wires(gates, e, new.wires(), last, last, old.width()))
@@ -104,7 +89,7 @@ pub(crate) fn choose_wires<G: Gates>(
     requires y { count ≤ length y.now }
     requires kept { count ≤ length kept.now }
     requires fits { count ≤ 64 }
-    requires room { count ≤ G.room gates.old }
+    requires room { HasRoom G.room gates.old count }
     ensures plays { (d : G.Wire) → Plays G.calls (choose e x.now y.now kept.now d count) gates.old result.items gates.new }
     ensures len { length result.items ≡ count }
 {
@@ -116,7 +101,7 @@ pub(crate) fn choose_wires<G: Gates>(
 }
 
 fn choose_bit<G: Gates>(gates: &mut G, e: G::Wire, x: G::Wire, y: G::Wire, kept: G::Wire) -> G::Wire
-    requires { 0 < G.room gates.old }
+    requires { HasRoom G.room gates.old 1 }
     ensures { Plays G.calls (choose_bit e x y kept) gates.old result gates.new }
 {
     let apart = gates.xor(x, y);
@@ -127,7 +112,7 @@ fn choose_bit<G: Gates>(gates: &mut G, e: G::Wire, x: G::Wire, y: G::Wire, kept:
 fn meet_wires<G: Gates>(gates: &mut G, x: &[G::Wire], y: &[G::Wire]) -> ArrayVec<G::Wire, 64>
     requires same { length x.now ≡ length y.now }
     requires fits { length x.now ≤ 64 }
-    requires room { length x.now ≤ G.room gates.old }
+    requires room { HasRoom G.room gates.old (length x.now) }
     ensures plays { (d : G.Wire) → Plays G.calls (meet_circuit (length x.now) x.now y.now d) gates.old result.items gates.new }
     ensures len { length result.items ≡ length x.now }
 {
@@ -141,7 +126,7 @@ fn meet_wires<G: Gates>(gates: &mut G, x: &[G::Wire], y: &[G::Wire]) -> ArrayVec
 fn either_wires<G: Gates>(gates: &mut G, x: &[G::Wire], y: &[G::Wire]) -> ArrayVec<G::Wire, 64>
     requires same { length x.now ≡ length y.now }
     requires fits { length x.now ≤ 64 }
-    requires room { length x.now ≤ G.room gates.old }
+    requires room { HasRoom G.room gates.old (length x.now) }
     ensures plays { (d : G.Wire) → Plays G.calls (either_circuit (length x.now) x.now y.now d) gates.old result.items gates.new }
     ensures len { length result.items ≡ length x.now }
 {
@@ -153,7 +138,7 @@ fn either_wires<G: Gates>(gates: &mut G, x: &[G::Wire], y: &[G::Wire]) -> ArrayV
 }
 
 fn either_bit<G: Gates>(gates: &mut G, x: G::Wire, y: G::Wire) -> G::Wire
-    requires { 0 < G.room gates.old }
+    requires { HasRoom G.room gates.old 1 }
     ensures { Plays G.calls (either_bit x y) gates.old result gates.new }
 {
     let neither = gates.and(gates.not(x), gates.not(y));

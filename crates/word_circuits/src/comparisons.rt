@@ -1,14 +1,15 @@
 //! Comparisons, and the conversion to a truth value.
 
-ghost use Rattle.std.specs.Prelude.{◌≡◌, ◌<◌, ◌≤◌, ◌+◌, ◌-◌, ◌++◌, ◌∷◌, [], length, ℤ, ◌-ℤ◌, int_lt, Bool, not, false};
+ghost use Rattle.std.specs.Prelude.{◌≡◌, ◌<◌, ◌≤◌, ◌+◌, ◌-◌, ◌++◌, ◌∷◌, [], length, ℤ, Bool, false};
 ghost use Rattle.gate_core.specs.Circuit.{Plays};
-ghost use Rattle.gate_core.specs.GateList.{PlaysGates};
-ghost use Rattle.gate_core.specs.Laws.{Rises};
-ghost use Rattle.word_circuits.specs.Chains.{turned, less_circuit, equal_circuit, to_bool_circuit};
-ghost use Rattle.word_circuits.specs.Integers.{Means, number_of, is_zero};
-ghost use Rattle.word_circuits.specs.Fragments.{fragment, ands_of};
+ghost use Rattle.gate_core.specs.Laws.{HasRoom};
+ghost use Rattle.word_circuits.specs.Chains.{biased, less_circuit, equal_circuit, to_bool_circuit};
+ghost use Rattle.oc_values.specs.declared.integers.BinaryOp.TheVariants.{Less, Equal};
+ghost use Rattle.oc_values.specs.declared.integers.IntKind.TheVariants.{Bool as KBool};
+ghost use Rattle.oc_values.specs.Integers.{operate_bits, convert};
+ghost use Rattle.word_circuits.specs.Integers.{Means};
+ghost use Rattle.word_circuits.specs.Fragments.{Performs, Affords};
 ghost use Rattle.word_circuits.specs.Fragments.Operation.{op_less, op_equal, op_to_bool};
-ghost use Rattle.word_circuits.specs.declared.operation.WordOp.TheVariants.{Less, Equal, ToBool};
 
 use crate::Word;
 use crate::carries::{chain, flip_wires};
@@ -24,13 +25,10 @@ pub fn less<G: Gates>(
     signed: bool,
 ) -> Word<G::Wire>
     requires same { length x.now ≡ length y.now }
-    requires room { ands_of Less (length x.now) ≤ G.room gates.old }
-    ensures plays { PlaysGates G.calls (fragment (op_less signed) (length x.now)) (x.now ++ y.now) gates.old result gates.new }
-    ensures means { (a b : ℤ) → Means (G.stands gates.old) signed x.now a → Means (G.stands gates.old) signed y.now b → Means (G.stands gates.new) false result (number_of (int_lt a b)) }
-    ensures made { Rises (G.made gates.old) (ands_of Less (length x.now)) (G.made gates.new) }
-    ensures room { G.room gates.old ≤ G.room gates.new + ands_of Less (length x.now) }
+    requires room { Affords G.room gates.old (op_less signed) (length x.now) }
+    ensures performs { Performs G.calls G.stands G.made G.room (op_less signed) (length x.now) (x.now ++ y.now) gates.old result gates.new }
+    ensures means { (a b : ℤ) → Means (G.stands gates.old) signed x.now a → Means (G.stands gates.old) signed y.now b → Means (G.stands gates.new) false result (operate_bits Less signed (length x.now) a b) }
     ensures width { length result ≡ 1 }
-    ensures keeps { (w : G.Wire) (b : Bool) → G.stands gates.old w b → G.stands gates.new w b }
 {
     less_wires(gates, x.wires(), y.wires(), signed)
 }
@@ -38,42 +36,41 @@ pub fn less<G: Gates>(
 /// Whether two words are equal, as a word of one wire.
 pub fn equal<G: Gates>(gates: &mut G, x: &Word<G::Wire>, y: &Word<G::Wire>) -> Word<G::Wire>
     requires same { length x.now ≡ length y.now }
-    requires room { ands_of Equal (length x.now) ≤ G.room gates.old }
-    ensures plays { PlaysGates G.calls (fragment op_equal (length x.now)) (x.now ++ y.now) gates.old result gates.new }
-    ensures means { (signed : Bool) (a b : ℤ) → Means (G.stands gates.old) signed x.now a → Means (G.stands gates.old) signed y.now b → Means (G.stands gates.new) false result (number_of (is_zero (a -ℤ b))) }
-    ensures made { Rises (G.made gates.old) (ands_of Equal (length x.now)) (G.made gates.new) }
-    ensures room { G.room gates.old ≤ G.room gates.new + ands_of Equal (length x.now) }
+    requires room { Affords G.room gates.old op_equal (length x.now) }
+    ensures performs { Performs G.calls G.stands G.made G.room op_equal (length x.now) (x.now ++ y.now) gates.old result gates.new }
+    ensures means { (signed : Bool) (a b : ℤ) → Means (G.stands gates.old) signed x.now a → Means (G.stands gates.old) signed y.now b → Means (G.stands gates.new) false result (operate_bits Equal signed (length x.now) a b) }
     ensures width { length result ≡ 1 }
-    ensures keeps { (w : G.Wire) (b : Bool) → G.stands gates.old w b → G.stands gates.new w b }
 {
     Word::of_wire(all_alike(gates, x.wires(), y.wires()))
 }
 
 /// Whether a word isn't 0, as a word of one wire.
 pub fn to_bool<G: Gates>(gates: &mut G, x: &Word<G::Wire>) -> Word<G::Wire>
-    requires { ands_of ToBool (length x.now) ≤ G.room gates.old }
-    ensures plays { PlaysGates G.calls (fragment op_to_bool (length x.now)) x.now gates.old result gates.new }
-    ensures means { (signed : Bool) (a : ℤ) → Means (G.stands gates.old) signed x.now a → Means (G.stands gates.new) false result (number_of (not (is_zero a))) }
-    ensures made { Rises (G.made gates.old) (ands_of ToBool (length x.now)) (G.made gates.new) }
-    ensures room { G.room gates.old ≤ G.room gates.new + ands_of ToBool (length x.now) }
+    requires { Affords G.room gates.old op_to_bool (length x.now) }
+    ensures performs { Performs G.calls G.stands G.made G.room op_to_bool (length x.now) x.now gates.old result gates.new }
+    ensures means { (signed : Bool) (a : ℤ) → Means (G.stands gates.old) signed x.now a → Means (G.stands gates.new) false result (convert a KBool) }
     ensures width { length result ≡ 1 }
-    ensures keeps { (w : G.Wire) (b : Bool) → G.stands gates.old w b → G.stands gates.new w b }
 {
     Word::of_wire(any_true(gates, x.wires()))
 }
 
 // Whether x is below y: their difference borrows.
-fn less_wires<G: Gates>(gates: &mut G, x: &[G::Wire], y: &[G::Wire], signed: bool) -> Word<G::Wire>
+pub(crate) fn less_wires<G: Gates>(
+    gates: &mut G,
+    x: &[G::Wire],
+    y: &[G::Wire],
+    signed: bool,
+) -> Word<G::Wire>
     requires some { 0 < length x.now }
     requires same { length x.now ≡ length y.now }
     requires fits { length x.now ≤ 64 }
-    requires room { length x.now ≤ G.room gates.old }
+    requires room { HasRoom G.room gates.old (length x.now) }
     ensures { Plays G.calls (less_circuit signed (length x.now) x.now y.now) gates.old result gates.new }
 {
     let width = x.len();
     let one = gates.known(true);
-    let left = turned(gates, x, signed);
-    let right = turned(gates, y, signed);
+    let left = biased(gates, x, signed);
+    let right = biased(gates, y, signed);
     let flipped = flip_wires(gates, right.as_slice(), width);
     let chained = chain(gates, left.as_slice(), flipped.as_slice(), one, width);
     Word::of_wire(gates.not(chained.1))
@@ -81,10 +78,10 @@ fn less_wires<G: Gates>(gates: &mut G, x: &[G::Wire], y: &[G::Wire], signed: boo
 
 // The word, with its top bit turned where it has a sign: the order of words with a sign is then that of
 // numbers.
-fn turned<G: Gates>(gates: &G, x: &[G::Wire], signed: bool) -> ArrayVec<G::Wire, 64>
+fn biased<G: Gates>(gates: &G, x: &[G::Wire], signed: bool) -> ArrayVec<G::Wire, 64>
     requires some { 0 < length x.now }
     requires fits { length x.now ≤ 64 }
-    ensures plays { (d : G.Wire) → Plays G.calls (turned signed (length x.now) x.now d) gates.now result.items gates.now }
+    ensures plays { (d : G.Wire) → Plays G.calls (biased signed (length x.now) x.now d) gates.now result.items gates.now }
     ensures len { length result.items ≡ length x.now }
 {
     if !signed {
@@ -97,10 +94,10 @@ fn turned<G: Gates>(gates: &G, x: &[G::Wire], signed: bool) -> ArrayVec<G::Wire,
 }
 
 // Whether all places of two words are alike.
-fn all_alike<G: Gates>(gates: &mut G, x: &[G::Wire], y: &[G::Wire]) -> G::Wire
+pub(crate) fn all_alike<G: Gates>(gates: &mut G, x: &[G::Wire], y: &[G::Wire]) -> G::Wire
     requires some { 0 < length x.now }
     requires same { length x.now ≡ length y.now }
-    requires room { length x.now - 1 ≤ G.room gates.old }
+    requires room { HasRoom G.room gates.old (length x.now - 1) }
     ensures { (d : G.Wire) → Plays G.calls (equal_circuit (length x.now) x.now y.now d) gates.old (result ∷ []) gates.new }
 {
     let mut all = alike(gates, wire(x, 0), wire(y, 0));
@@ -119,9 +116,9 @@ fn alike<G: Gates>(gates: &G, x: G::Wire, y: G::Wire) -> G::Wire
 }
 
 // Whether any place of a word is true.
-fn any_true<G: Gates>(gates: &mut G, x: &[G::Wire]) -> G::Wire
+pub(crate) fn any_true<G: Gates>(gates: &mut G, x: &[G::Wire]) -> G::Wire
     requires some { 0 < length x.now }
-    requires room { length x.now - 1 ≤ G.room gates.old }
+    requires room { HasRoom G.room gates.old (length x.now - 1) }
     ensures { (d : G.Wire) → Plays G.calls (to_bool_circuit (length x.now) x.now d) gates.old (result ∷ []) gates.new }
 {
     let mut none = gates.not(wire(x, 0));

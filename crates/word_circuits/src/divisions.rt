@@ -2,11 +2,12 @@
 
 ghost use Rattle.std.specs.Prelude.{◌≡◌, ◌<◌, ◌≤◌, ◌+◌, ◌-◌, ◌*◌, ◌++◌, ◌∷◌, [], length, ℤ, Bool};
 ghost use Rattle.gate_core.specs.Circuit.{Plays};
-ghost use Rattle.gate_core.specs.GateList.{PlaysGates};
-ghost use Rattle.gate_core.specs.Laws.{Rises};
+ghost use Rattle.gate_core.specs.Laws.{HasRoom};
 ghost use Rattle.word_circuits.specs.Divisions.{divide_bit, divide_circuit, cond_negate, divide_sizes, quotient_circuit, remainder_circuit};
-ghost use Rattle.word_circuits.specs.Integers.{Means, wrap, quotient as quotient_of, remainder as remainder_of};
-ghost use Rattle.word_circuits.specs.Fragments.{fragment, ands_of, word_op};
+ghost use Rattle.oc_values.specs.declared.integers.BinaryOp.TheVariants.{Div, Rem};
+ghost use Rattle.oc_values.specs.Integers.{operate_bits};
+ghost use Rattle.word_circuits.specs.Integers.{Means};
+ghost use Rattle.word_circuits.specs.Fragments.{Performs, Affords, ands_of, word_op};
 ghost use Rattle.word_circuits.specs.Fragments.Operation.{op_quotient, op_remainder};
 
 use crate::Word;
@@ -25,13 +26,10 @@ pub fn quotient<G: Gates>(
     signed: bool,
 ) -> Word<G::Wire>
     requires same { length x.now ≡ length y.now }
-    requires room { ands_of (word_op (op_quotient signed)) (length x.now) ≤ G.room gates.old }
-    ensures plays { PlaysGates G.calls (fragment (op_quotient signed) (length x.now)) (x.now ++ y.now) gates.old result gates.new }
-    ensures means { (a b : ℤ) → Means (G.stands gates.old) signed x.now a → Means (G.stands gates.old) signed y.now b → Means (G.stands gates.new) signed result (wrap signed (length x.now) (quotient_of signed a b)) }
-    ensures made { Rises (G.made gates.old) (ands_of (word_op (op_quotient signed)) (length x.now)) (G.made gates.new) }
-    ensures room { G.room gates.old ≤ G.room gates.new + ands_of (word_op (op_quotient signed)) (length x.now) }
+    requires room { Affords G.room gates.old (op_quotient signed) (length x.now) }
+    ensures performs { Performs G.calls G.stands G.made G.room (op_quotient signed) (length x.now) (x.now ++ y.now) gates.old result gates.new }
+    ensures means { (a b : ℤ) → Means (G.stands gates.old) signed x.now a → Means (G.stands gates.old) signed y.now b → Means (G.stands gates.new) signed result (operate_bits Div signed (length x.now) a b) }
     ensures width { length result ≡ length x.now }
-    ensures keeps { (w : G.Wire) (b : Bool) → G.stands gates.old w b → G.stands gates.new w b }
 {
     Word::of_array(quotient_wires(gates, x.wires(), y.wires(), signed))
 }
@@ -44,13 +42,10 @@ pub fn remainder<G: Gates>(
     signed: bool,
 ) -> Word<G::Wire>
     requires same { length x.now ≡ length y.now }
-    requires room { ands_of (word_op (op_remainder signed)) (length x.now) ≤ G.room gates.old }
-    ensures plays { PlaysGates G.calls (fragment (op_remainder signed) (length x.now)) (x.now ++ y.now) gates.old result gates.new }
-    ensures means { (a b : ℤ) → Means (G.stands gates.old) signed x.now a → Means (G.stands gates.old) signed y.now b → Means (G.stands gates.new) signed result (wrap signed (length x.now) (remainder_of a b)) }
-    ensures made { Rises (G.made gates.old) (ands_of (word_op (op_remainder signed)) (length x.now)) (G.made gates.new) }
-    ensures room { G.room gates.old ≤ G.room gates.new + ands_of (word_op (op_remainder signed)) (length x.now) }
+    requires room { Affords G.room gates.old (op_remainder signed) (length x.now) }
+    ensures performs { Performs G.calls G.stands G.made G.room (op_remainder signed) (length x.now) (x.now ++ y.now) gates.old result gates.new }
+    ensures means { (a b : ℤ) → Means (G.stands gates.old) signed x.now a → Means (G.stands gates.old) signed y.now b → Means (G.stands gates.new) signed result (operate_bits Rem signed (length x.now) a b) }
     ensures width { length result ≡ length x.now }
-    ensures keeps { (w : G.Wire) (b : Bool) → G.stands gates.old w b → G.stands gates.new w b }
 {
     Word::of_array(remainder_wires(gates, x.wires(), y.wires(), signed))
 }
@@ -65,7 +60,7 @@ fn quotient_wires<G: Gates>(
     requires some { 0 < length x.now }
     requires same { length x.now ≡ length y.now }
     requires fits { length x.now ≤ 64 }
-    requires room { ands_of (word_op (op_quotient signed)) (length x.now) ≤ G.room gates.old }
+    requires room { HasRoom G.room gates.old (ands_of (word_op (op_quotient signed)) (length x.now)) }
     ensures plays { (d : G.Wire) → Plays G.calls (quotient_circuit signed (length x.now) x.now y.now d) gates.old result.items gates.new }
     ensures len { length result.items ≡ length x.now }
 {
@@ -88,7 +83,7 @@ fn remainder_wires<G: Gates>(
     requires some { 0 < length x.now }
     requires same { length x.now ≡ length y.now }
     requires fits { length x.now ≤ 64 }
-    requires room { ands_of (word_op (op_remainder signed)) (length x.now) ≤ G.room gates.old }
+    requires room { HasRoom G.room gates.old (ands_of (word_op (op_remainder signed)) (length x.now)) }
     ensures plays { (d : G.Wire) → Plays G.calls (remainder_circuit signed (length x.now) x.now y.now d) gates.old result.items gates.new }
     ensures len { length result.items ≡ length x.now }
 {
@@ -108,7 +103,7 @@ fn divide_sizes<G: Gates>(
     requires some { 0 < length x.now }
     requires same { length x.now ≡ length y.now }
     requires fits { length x.now ≤ 64 }
-    requires room { 2 * (length x.now - 1) + length x.now * (2 * length x.now + 1) ≤ G.room gates.old }
+    requires room { HasRoom G.room gates.old (2 * (length x.now - 1) + length x.now * (2 * length x.now + 1)) }
     ensures plays { (d : G.Wire) → Plays G.calls (divide_sizes (length x.now) x.now y.now d) gates.old (record { quotient = result.0.items; rest = result.1.items }) gates.new }
     ensures quotient { length result.0.items ≡ length x.now }
     ensures rest { length result.1.items ≡ length x.now }
@@ -128,7 +123,7 @@ fn divide<G: Gates>(
     requires some { 0 < length x.now }
     requires same { length x.now ≡ length y.now }
     requires fits { length x.now ≤ 64 }
-    requires room { length x.now * (2 * length x.now + 1) ≤ G.room gates.old }
+    requires room { HasRoom G.room gates.old (length x.now * (2 * length x.now + 1)) }
     ensures plays { Plays G.calls (divide_circuit (length x.now) x.now y.now) gates.old (record { quotient = result.0.items; rest = result.1.items }) gates.new }
     ensures quotient { length result.0.items ≡ length x.now }
     ensures rest { length result.1.items ≡ length x.now }
@@ -162,7 +157,7 @@ fn divide_bit<G: Gates>(
     requires some { 0 < length rest.now }
     requires same { length rest.now ≡ length turned.now }
     requires fits { length rest.now ≤ 64 }
-    requires room { 2 * length rest.now + 1 ≤ G.room gates.old }
+    requires room { HasRoom G.room gates.old (2 * length rest.now + 1) }
     ensures plays { Plays G.calls (divide_bit next (turned.now ++ above ∷ []) one rest.now (length rest.now)) gates.old (result.0, result.1.items) gates.new }
     ensures len { length result.1.items ≡ length rest.now }
 {
@@ -185,7 +180,7 @@ fn divide_bit<G: Gates>(
 fn cond_negate<G: Gates>(gates: &mut G, b: G::Wire, x: &[G::Wire]) -> ArrayVec<G::Wire, 64>
     requires some { 0 < length x.now }
     requires fits { length x.now ≤ 64 }
-    requires room { length x.now - 1 ≤ G.room gates.old }
+    requires room { HasRoom G.room gates.old (length x.now - 1) }
     ensures plays { (d : G.Wire) → Plays G.calls (cond_negate (length x.now) b x.now d) gates.old result.items gates.new }
     ensures len { length result.items ≡ length x.now }
 {

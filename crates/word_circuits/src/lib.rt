@@ -11,7 +11,10 @@
 mod carries;
 mod choices;
 mod comparisons;
+mod derived;
 mod divisions;
+mod known;
+mod laws;
 mod operation;
 mod products;
 mod shifts;
@@ -21,7 +24,10 @@ mod word;
 
 pub use choices::{differ, either, flip, meet, select};
 pub use comparisons::{equal, less, to_bool};
+pub use derived::{greater, greater_equal, is_zero, less_equal, unequal};
 pub use divisions::{quotient, remainder};
+pub use known::known_word;
+pub use laws::{fragments_compute, fragments_have_ands, fragments_have_widths};
 pub use operation::{WordOp, ands};
 pub use products::multiply;
 pub use shifts::{resize, shift_known, shift_word};

@@ -1,6 +1,7 @@
 //! The operations, and how many ANDs each makes.
 
 ghost use Rattle.std.specs.Prelude.{◌≡◌, ◌≤◌, IsTrue};
+ghost use Rattle.gate_core.specs.Backends.{most_ands};
 ghost use Rattle.word_circuits.specs.Fragments.{ands_of};
 ghost use Rattle.word_circuits.specs.Widths.{is_width, log2};
 
@@ -32,7 +33,7 @@ pub enum WordOp {
 pub fn ands(op: WordOp, width: u8) -> u32
     requires { IsTrue (is_width width) }
     ensures count { result ≡ ands_of op width }
-    ensures most { result ≤ 8445 }
+    ensures most { result ≤ most_ands }
 {
     let width = u32::from(width);
     match op {

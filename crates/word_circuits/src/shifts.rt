@@ -2,14 +2,13 @@
 
 ghost use Rattle.std.specs.Prelude.{◌≡◌, ◌<◌, ◌≤◌, ◌+◌, ◌-◌, ◌*◌, ◌%◌, ◌^◌, ◌++◌, length, take, replicate, ℤ, Bool, IsTrue};
 ghost use Rattle.gate_core.specs.Circuit.{Plays};
-ghost use Rattle.gate_core.specs.GateList.{PlaysGates};
-ghost use Rattle.gate_core.specs.Laws.{Rises};
+ghost use Rattle.gate_core.specs.Laws.{HasRoom};
 ghost use Rattle.word_circuits.specs.Widths.{is_width, log2};
 ghost use Rattle.word_circuits.specs.Choices.{moved_in, moved, choose, shift_word_circuit};
-ghost use Rattle.word_circuits.specs.Integers.{Means, wrap, shift, shift_amount};
-ghost use Rattle.word_circuits.specs.Fragments.{fragment, ands_of};
+ghost use Rattle.oc_values.specs.Integers.{wrap_bits, shift_amount};
+ghost use Rattle.word_circuits.specs.Integers.{Means, shift};
+ghost use Rattle.word_circuits.specs.Fragments.{Performs, Affords};
 ghost use Rattle.word_circuits.specs.Fragments.Operation.{op_shift_known, op_shift_word, op_resize};
-ghost use Rattle.word_circuits.specs.declared.operation.WordOp.TheVariants.{ShiftKnown, ShiftWord, Resize};
 
 use crate::Word;
 use crate::choices::choose_wires;
@@ -27,13 +26,10 @@ pub fn shift_known<G: Gates>(
     left: bool,
     signed: bool,
 ) -> Word<G::Wire>
-    requires { ands_of ShiftKnown (length x.now) ≤ G.room gates.old }
-    ensures plays { PlaysGates G.calls (fragment (op_shift_known amount left signed) (length x.now)) x.now gates.old result gates.new }
-    ensures means { (a : ℤ) → Means (G.stands gates.old) signed x.now a → Means (G.stands gates.new) signed result (wrap signed (length x.now) (shift left a (amount % length x.now))) }
-    ensures made { Rises (G.made gates.old) (ands_of ShiftKnown (length x.now)) (G.made gates.new) }
-    ensures room { G.room gates.old ≤ G.room gates.new + ands_of ShiftKnown (length x.now) }
+    requires { Affords G.room gates.old (op_shift_known amount left signed) (length x.now) }
+    ensures performs { Performs G.calls G.stands G.made G.room (op_shift_known amount left signed) (length x.now) x.now gates.old result gates.new }
+    ensures means { (a : ℤ) → Means (G.stands gates.old) signed x.now a → Means (G.stands gates.new) signed result (wrap_bits signed (length x.now) (shift left a (amount % length x.now))) }
     ensures width { length result ≡ length x.now }
-    ensures keeps { (w : G.Wire) (b : Bool) → G.stands gates.old w b → G.stands gates.new w b }
 {
     let wires = x.wires();
     let zero = gates.known(false);
@@ -50,13 +46,10 @@ pub fn shift_word<G: Gates>(
     signed: bool,
 ) -> Word<G::Wire>
     requires same { length x.now ≡ length amount.now }
-    requires room { ands_of ShiftWord (length x.now) ≤ G.room gates.old }
-    ensures plays { PlaysGates G.calls (fragment (op_shift_word left signed) (length x.now)) (x.now ++ amount.now) gates.old result gates.new }
-    ensures means { (kind : Bool) (a b : ℤ) → Means (G.stands gates.old) signed x.now a → Means (G.stands gates.old) kind amount.now b → Means (G.stands gates.new) signed result (wrap signed (length x.now) (shift left a (shift_amount (length x.now) b))) }
-    ensures made { Rises (G.made gates.old) (ands_of ShiftWord (length x.now)) (G.made gates.new) }
-    ensures room { G.room gates.old ≤ G.room gates.new + ands_of ShiftWord (length x.now) }
+    requires room { Affords G.room gates.old (op_shift_word left signed) (length x.now) }
+    ensures performs { Performs G.calls G.stands G.made G.room (op_shift_word left signed) (length x.now) (x.now ++ amount.now) gates.old result gates.new }
+    ensures means { (kind : Bool) (a b : ℤ) → Means (G.stands gates.old) signed x.now a → Means (G.stands gates.old) kind amount.now b → Means (G.stands gates.new) signed result (wrap_bits signed (length x.now) (shift left a (shift_amount (length x.now) b))) }
     ensures width { length result ≡ length x.now }
-    ensures keeps { (w : G.Wire) (b : Bool) → G.stands gates.old w b → G.stands gates.new w b }
 {
     Word::of_array(shift_wires(gates, x.wires(), amount.wires(), left, signed))
 }
@@ -65,13 +58,10 @@ pub fn shift_word<G: Gates>(
 /// word repeats the top bit where `signed` says that it is a sign, and is filled with zero where not.
 pub fn resize<G: Gates>(gates: &mut G, x: &Word<G::Wire>, width: u8, signed: bool) -> Word<G::Wire>
     requires width { IsTrue (is_width width) }
-    requires room { ands_of Resize (length x.now) ≤ G.room gates.old }
-    ensures plays { PlaysGates G.calls (fragment (op_resize width signed) (length x.now)) x.now gates.old result gates.new }
-    ensures means { (kind : Bool) (a : ℤ) → Means (G.stands gates.old) signed x.now a → Means (G.stands gates.new) kind result (wrap kind width a) }
-    ensures made { Rises (G.made gates.old) (ands_of Resize (length x.now)) (G.made gates.new) }
-    ensures room { G.room gates.old ≤ G.room gates.new + ands_of Resize (length x.now) }
+    requires room { Affords G.room gates.old (op_resize width signed) (length x.now) }
+    ensures performs { Performs G.calls G.stands G.made G.room (op_resize width signed) (length x.now) x.now gates.old result gates.new }
+    ensures means { (kind : Bool) (a : ℤ) → Means (G.stands gates.old) signed x.now a → Means (G.stands gates.new) kind result (wrap_bits kind width a) }
     ensures width { length result ≡ width }
-    ensures keeps { (w : G.Wire) (b : Bool) → G.stands gates.old w b → G.stands gates.new w b }
 {
     let wires = x.wires();
     let zero = gates.known(false);
@@ -131,7 +121,7 @@ fn shift_wires<G: Gates>(
 ) -> ArrayVec<G::Wire, 64>
     requires width { IsTrue (is_width (length x.now)) }
     requires same { length x.now ≡ length amount.now }
-    requires room { length x.now * log2 (length x.now) ≤ G.room gates.old }
+    requires room { HasRoom G.room gates.old (length x.now * log2 (length x.now)) }
     ensures plays { Plays G.calls (shift_word_circuit left signed (length x.now) x.now amount.now) gates.old result.items gates.new }
     ensures len { length result.items ≡ length x.now }
 {
@@ -158,7 +148,7 @@ fn shift_step<G: Gates>(
     requires fits { length x.now ≤ 64 }
     requires place { 2 ^ k ≤ length x.now }
     requires small { k ≤ 6 }
-    requires room { length x.now ≤ G.room gates.old }
+    requires room { HasRoom G.room gates.old (length x.now) }
     ensures plays { Plays G.calls (choose chosen x.now (moved left (length x.now) (2 ^ k) (moved_in left signed (length x.now) x.now zero) x.now) x.now zero (length x.now)) gates.old result.items gates.new }
     ensures len { length result.items ≡ length x.now }
 {

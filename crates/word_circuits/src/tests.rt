@@ -314,3 +314,35 @@ fn blank_counts(rt: HostRuntime) {
     let product = multiply(&mut gates, &wide, &wide);
     assert_eq!(rt; (product.width(), gates.made()), (64, 4033));
 }
+
+// What the comparisons that are others turned say of two numbers of 8 bits, and whether the first is 0.
+fn compared(x: i128, y: i128, signed: bool) -> Option<[i128; 5]> {
+    let mut gates = PlainBits::new();
+    let (a, b) = (word(x, 8)?.copy(), word(y, 8)?);
+    if a.width() != b.width() {
+        return None;
+    }
+    Some([
+        number(&greater(&mut gates, &a, &b, signed)),
+        number(&less_equal(&mut gates, &a, &b, signed)),
+        number(&greater_equal(&mut gates, &a, &b, signed)),
+        number(&unequal(&mut gates, &a, &b)),
+        number(&is_zero(&mut gates, &a)),
+    ])
+}
+
+#[test]
+fn derived_comparisons(rt: HostRuntime) {
+    let rows = [
+        (1, 2, false, [0, 1, 0, 1, 0]),
+        (2, 2, true, [0, 1, 1, 0, 0]),
+        (-1, 1, true, [0, 1, 0, 1, 0]),
+        (-1, 1, false, [1, 0, 1, 1, 0]),
+        (0, -128, true, [1, 0, 1, 1, 1]),
+    ];
+    for (x, y, signed, want) in rows {
+        assert_eq!(rt; compared(x, y, signed), Some(want), "{x} and {y}");
+    }
+    let gates = PlainBits::new();
+    assert_eq!(rt; number(&known_word(&gates, 261, 8)), 5);
+}

@@ -2,6 +2,7 @@
 
 ghost use Rattle.std.specs.Prelude.{◌≡◌, ◌<◌, ◌≤◌, ◌+◌, [], ◌∷◌, ◌++◌, length, get_or, replicate, take, drop};
 ghost use Rattle.gate_core.specs.Circuit.{Plays};
+ghost use Rattle.gate_core.specs.Laws.{HasRoom};
 ghost use Rattle.word_circuits.specs.Chains.{adder};
 
 use arrayvec::ArrayVec;
@@ -61,7 +62,7 @@ pub(crate) fn add_bit<G: Gates>(
     y: G::Wire,
     carry: G::Wire,
 ) -> (G::Wire, G::Wire)
-    requires { 0 < G.room gates.old }
+    requires { HasRoom G.room gates.old 1 }
     ensures { Plays G.calls (adder x y carry) gates.old result gates.new }
 {
     let p = gates.xor(x, carry);

@@ -60,6 +60,13 @@ impl<W: Copy + Default> Word<W> {
         self.wires.as_slice()
     }
 
+    /// The same wires once more.
+    pub fn copy(&self) -> Word<W>
+        ensures { result ≡ self.now }
+    {
+        Word::of_slice(self.wires())
+    }
+
     /// The word of these wires, of which there are as many as a width.
     pub fn of_array(wires: ArrayVec<W, 64>) -> Word<W>
         requires { IsTrue (is_width (length wires.items)) }

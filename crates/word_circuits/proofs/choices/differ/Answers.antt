@@ -1,5 +1,5 @@
-use Rattle.std.proofs.Common.{bit_xor, ◌++◌, length, arith, refl, sym, ap, ◌∙◌, rules}
-use Rattle.word_circuits.specs.Integers.{combine}
+use Rattle.std.proofs.Common.{false, bit_xor, ◌++◌, length, arith, refl, sym, ap, ◌∙◌, rules}
+use Rattle.oc_values.specs.Integers.{combine_bits}
 use Rattle.word_circuits.specs.Choices.{differ_circuit}
 use Rattle.word_circuits.specs.Fragments.Operation.{op_differ}
 use Rattle.word_circuits.proofs.Calling.{width_pos, width_most, width_of, owed, carried_two, means_two, length-two, on_two}
@@ -26,10 +26,7 @@ returns g c =
     (λ d. carried_two m (λ u v. differ_circuit (length u) u v d) _ x _ y _ c.of_array.result _ _ c.wires.ensures.value c.wires-2.ensures.value c.of_array.ensures (c.differ_wires.ensures.plays d)) in
     let o = owed m g.G.Gates.stands g.G.Gates.made g.G.Gates.room law g.met.G.Gates.counts op_differ w (x ++ y) _ _ _ (omega (arith, some)) (length-two x y w refl same) (Uniform-differ w) (Counted-differ w) q in
     record {
-      plays = o.plays;
-      means = λ signed. means_two m g.G.Gates.stands law op_differ w x y _ _ _ refl same (Uniform-differ w) q signed signed signed (λ a b. combine signed w bit_xor a b) (integer-differ signed w some);
-      made = o.made;
-      room = o.room;
+      performs = o.performs;
+      means = λ signed. means_two m g.G.Gates.stands law op_differ w x y _ _ _ refl same (Uniform-differ w) q signed signed signed (λ a b. combine_bits signed w bit_xor a b) (integer-differ false signed w some);
       width = o.width;
-      keeps = o.keeps;
     }

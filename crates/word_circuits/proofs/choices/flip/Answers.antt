@@ -1,6 +1,6 @@
-use Rattle.std.proofs.Common.{negsuc, ◌-ℤ◌, length, arith, refl, ap, rules, subst}
+use Rattle.std.proofs.Common.{false, negsuc, ◌-ℤ◌, length, arith, refl, ap, rules, subst}
 use Rattle.gate_core.specs.Circuit.{Plays}
-use Rattle.word_circuits.specs.Integers.{wrap}
+use Rattle.oc_values.specs.Integers.{wrap_bits}
 use Rattle.word_circuits.specs.Chains.{flips}
 use Rattle.word_circuits.specs.Fragments.Operation.{op_flip}
 use Rattle.word_circuits.proofs.Calling.{width_pos, width_most, width_of, owed, carried_one, means_one, on_one}
@@ -24,10 +24,7 @@ returns g c =
     (carried_one m (λ u. flips u d c.width.result) _ x _ c.of_array.result _ _ c.wires.ensures.value c.of_array.ensures (c.flip_wires.ensures.plays d))) in
     let o = owed m g.G.Gates.stands g.G.Gates.made g.G.Gates.room law counts op_flip w x _ _ _ some refl (Uniform-flip w) (Counted-flip w) q in
     record {
-      plays = o.plays;
-      means = λ signed. means_one m g.G.Gates.stands law op_flip w x _ _ _ refl (Uniform-flip w) q signed signed (λ a. wrap signed w (negsuc 0 -ℤ a)) (integer-flip signed w some);
-      made = o.made;
-      room = o.room;
+      performs = o.performs;
+      means = λ signed. means_one m g.G.Gates.stands law op_flip w x _ _ _ refl (Uniform-flip w) q signed signed (λ a. wrap_bits signed w (negsuc 0 -ℤ a)) (integer-flip false signed w some);
       width = o.width;
-      keeps = o.keeps;
     }

@@ -31,10 +31,7 @@ returns g c =
     (carried_two m (λ u v. choose e u v v d c.width.result) _ x _ y _ c.of_array.result _ _ c.wires.ensures.value c.wires-last.ensures.value c.of_array.ensures (c.choose_wires.ensures.plays d))) in
     let o = owed m g.G.Gates.stands g.G.Gates.made g.G.Gates.room law counts op_select w (e ∷ (x ++ y)) _ _ _ (omega (arith, some)) (length-select e x y w refl same) (Uniform-select w) (Counted-select w) q in
     record {
-      plays = o.plays;
+      performs = o.performs;
       means = means_select m g.G.Gates.stands law w e x y _ _ _ refl same q;
-      made = o.made;
-      room = o.room;
       width = o.width;
-      keeps = o.keeps;
     }

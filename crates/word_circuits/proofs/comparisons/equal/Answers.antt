@@ -1,5 +1,5 @@
 use Rattle.std.proofs.Common.{◌-ℤ◌, ◌++◌, length, arith, refl, sym, ap, ◌∙◌, false}
-use Rattle.word_circuits.specs.Integers.{number_of, is_zero}
+use Rattle.oc_values.specs.Integers.{number_of, is_zero}
 use Rattle.word_circuits.specs.Chains.{equal_circuit}
 use Rattle.word_circuits.specs.Fragments.Operation.{op_equal}
 use Rattle.word_circuits.proofs.Calling.{width_pos, width_of, owed, carried_two, means_two, length-two, on_two}
@@ -27,10 +27,7 @@ returns g c =
     (λ d. carried_two m (λ u v. equal_circuit (length u) u v d) _ x _ y _ c.of_wire.result _ _ c.wires.ensures.value c.wires-2.ensures.value c.of_wire.ensures (c.all_alike.ensures d)) in
     let o = owed m g.G.Gates.stands g.G.Gates.made g.G.Gates.room law g.met.G.Gates.counts op_equal w (x ++ y) _ _ _ (omega (arith, some)) (length-two x y w refl same) (Uniform-equal w) (Counted-equal w) q in
     record {
-      plays = o.plays;
-      means = λ signed. means_two m g.G.Gates.stands law op_equal w x y _ _ _ refl same (Uniform-equal w) q signed signed false (λ a b. number_of (is_zero (a -ℤ b))) (integer-equal signed w some);
-      made = o.made;
-      room = o.room;
+      performs = o.performs;
+      means = λ signed. means_two m g.G.Gates.stands law op_equal w x y _ _ _ refl same (Uniform-equal w) q signed signed false (λ a b. number_of (is_zero (a -ℤ b))) (integer-equal false signed w some);
       width = o.width;
-      keeps = o.keeps;
     }

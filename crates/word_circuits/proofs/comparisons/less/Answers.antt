@@ -1,5 +1,5 @@
 use Rattle.std.proofs.Common.{int_lt, ◌++◌, length, arith, refl, sym, ap, ◌∙◌, rules, false}
-use Rattle.word_circuits.specs.Integers.{number_of}
+use Rattle.oc_values.specs.Integers.{number_of}
 use Rattle.word_circuits.specs.Chains.{less_circuit}
 use Rattle.word_circuits.specs.Fragments.Operation.{op_less}
 use Rattle.word_circuits.proofs.Calling.{width_pos, width_most, width_of, owed, carried_two, means_two, length-two, on_two}
@@ -27,10 +27,7 @@ returns g c =
     (λ d. carried_two m (λ u v. less_circuit c.args.signed (length u) u v) _ x _ y _ _ _ _ c.wires.ensures.value c.wires-2.ensures.value refl c.less_wires.ensures) in
     let o = owed m g.G.Gates.stands g.G.Gates.made g.G.Gates.room law g.met.G.Gates.counts (op_less c.args.signed) w (x ++ y) _ _ _ (omega (arith, some)) (length-two x y w refl same) (Uniform-less c.args.signed w) (Counted-less c.args.signed w some) q in
     record {
-      plays = o.plays;
+      performs = o.performs;
       means = means_two m g.G.Gates.stands law (op_less c.args.signed) w x y _ _ _ refl same (Uniform-less c.args.signed w) q c.args.signed c.args.signed false (λ a b. number_of (int_lt a b)) (integer-less c.args.signed w some);
-      made = o.made;
-      room = o.room;
       width = o.width;
-      keeps = o.keeps;
     }

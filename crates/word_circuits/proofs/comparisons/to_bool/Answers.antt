@@ -1,5 +1,5 @@
 use Rattle.std.proofs.Common.{length, refl, false, not}
-use Rattle.word_circuits.specs.Integers.{number_of, is_zero}
+use Rattle.oc_values.specs.Integers.{number_of, is_zero}
 use Rattle.word_circuits.specs.Chains.{to_bool_circuit}
 use Rattle.word_circuits.specs.Fragments.Operation.{op_to_bool}
 use Rattle.word_circuits.proofs.Calling.{width_pos, width_of, owed, carried_one, means_one, on_one}
@@ -23,10 +23,7 @@ returns g c =
     let q = on_one m op_to_bool w x _ _ _ (λ d. carried_one m (λ u. to_bool_circuit (length u) u d) _ x _ c.of_wire.result _ _ c.wires.ensures.value c.of_wire.ensures (c.any_true.ensures d)) in
     let o = owed m g.G.Gates.stands g.G.Gates.made g.G.Gates.room law g.met.G.Gates.counts op_to_bool w x _ _ _ some refl (Uniform-to_bool w) (Counted-to_bool w) q in
     record {
-      plays = o.plays;
-      means = λ signed. means_one m g.G.Gates.stands law op_to_bool w x _ _ _ refl (Uniform-to_bool w) q signed false (λ a. number_of (not (is_zero a))) (integer-to_bool signed w some);
-      made = o.made;
-      room = o.room;
+      performs = o.performs;
+      means = λ signed. means_one m g.G.Gates.stands law op_to_bool w x _ _ _ refl (Uniform-to_bool w) q signed false (λ a. number_of (not (is_zero a))) (integer-to_bool false signed w some);
       width = o.width;
-      keeps = o.keeps;
     }

@@ -1,5 +1,5 @@
-use Rattle.std.proofs.Common.{◌++◌, length, arith, refl, sym, ap, ◌∙◌, rules}
-use Rattle.word_circuits.specs.Integers.{wrap, remainder}
+use Rattle.std.proofs.Common.{false, ◌++◌, length, arith, refl, sym, ap, ◌∙◌, rules}
+use Rattle.oc_values.specs.Integers.{wrap_bits, remainder}
 use Rattle.word_circuits.specs.Divisions.{remainder_circuit}
 use Rattle.word_circuits.specs.Fragments.Operation.{op_remainder}
 use Rattle.word_circuits.proofs.Calling.{width_pos, width_most, width_of, owed, carried_two, means_two, length-two, on_two}
@@ -28,10 +28,7 @@ returns g c =
     (λ d. carried_two m (λ u v. remainder_circuit signed (length u) u v d) _ x _ y _ c.of_array.result _ _ c.wires.ensures.value c.wires-2.ensures.value c.of_array.ensures (c.remainder_wires.ensures.plays d)) in
     let o = owed m g.G.Gates.stands g.G.Gates.made g.G.Gates.room law g.met.G.Gates.counts (op_remainder signed) w (x ++ y) _ _ _ (omega (arith, some)) (length-two x y w refl same) (Uniform-remainder signed w) (Counted-remainder signed w some) q in
     record {
-      plays = o.plays;
-      means = means_two m g.G.Gates.stands law (op_remainder signed) w x y _ _ _ refl same (Uniform-remainder signed w) q signed signed signed (λ a b. wrap signed w (remainder a b)) (integer-remainder signed w some);
-      made = o.made;
-      room = o.room;
+      performs = o.performs;
+      means = means_two m g.G.Gates.stands law (op_remainder signed) w x y _ _ _ refl same (Uniform-remainder signed w) q signed signed signed (λ a b. wrap_bits signed w (remainder a b)) (integer-remainder false signed w some);
       width = o.width;
-      keeps = o.keeps;
     }

@@ -1,5 +1,5 @@
-use Rattle.std.proofs.Common.{◌*ℤ◌, ◌++◌, length, arith, refl, sym, ap, ◌∙◌, rules}
-use Rattle.word_circuits.specs.Integers.{wrap}
+use Rattle.std.proofs.Common.{false, ◌*ℤ◌, ◌++◌, length, arith, refl, sym, ap, ◌∙◌, rules}
+use Rattle.oc_values.specs.Integers.{wrap_bits}
 use Rattle.word_circuits.specs.Products.{multiply_circuit}
 use Rattle.word_circuits.specs.Fragments.Operation.{op_multiply}
 use Rattle.word_circuits.proofs.Calling.{width_pos, width_most, width_of, owed, carried_two, means_two, length-two, on_two}
@@ -27,10 +27,7 @@ returns g c =
     (λ d. carried_two m (λ u v. multiply_circuit (length u) u v d) _ x _ y _ c.of_array.result _ _ c.wires.ensures.value c.wires-2.ensures.value c.of_array.ensures (c.multiply_wires.ensures.plays d)) in
     let o = owed m g.G.Gates.stands g.G.Gates.made g.G.Gates.room law g.met.G.Gates.counts op_multiply w (x ++ y) _ _ _ (omega (arith, some)) (length-two x y w refl same) (Uniform-multiply w) (Counted-multiply w some) q in
     record {
-      plays = o.plays;
-      means = λ signed. means_two m g.G.Gates.stands law op_multiply w x y _ _ _ refl same (Uniform-multiply w) q signed signed signed (λ a b. wrap signed w (a *ℤ b)) (integer-multiply signed w some);
-      made = o.made;
-      room = o.room;
+      performs = o.performs;
+      means = λ signed. means_two m g.G.Gates.stands law op_multiply w x y _ _ _ refl same (Uniform-multiply w) q signed signed signed (λ a b. wrap_bits signed w (a *ℤ b)) (integer-multiply false signed w some);
       width = o.width;
-      keeps = o.keeps;
     }

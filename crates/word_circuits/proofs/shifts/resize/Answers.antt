@@ -1,5 +1,5 @@
 use Rattle.std.proofs.Common.{◌-◌, ◌++◌, length, take, replicate, refl, ap, ◌∙◌, rules}
-use Rattle.word_circuits.specs.Integers.{wrap}
+use Rattle.oc_values.specs.Integers.{wrap_bits}
 use Rattle.word_circuits.specs.Fragments.Operation.{op_resize}
 use Rattle.word_circuits.proofs.Calling.{width_pos, width_most, width_of, owed, means_one, on_one}
 use Rattle.word_circuits.proofs.Selecting.{Uniform-resize, Counted-resize}
@@ -29,10 +29,7 @@ returns g c =
     c.known-zero.ensures c.wires-wires.ensures.value refl c.moved_in-filler.ensures (c.resized.ensures.items ∙ ap (λ n. take n c.wires-wires.result.now ++ replicate (n - length c.wires-wires.result.now) c.moved_in-filler.result) c.from.ensures) c.of_array.ensures) in
     let o = owed m g.G.Gates.stands g.G.Gates.made g.G.Gates.room law counts (op_resize v signed) w x _ _ _ some refl (Uniform-resize v signed w) (Counted-resize v signed w) q in
     record {
-      plays = o.plays;
-      means = λ kind. means_one m g.G.Gates.stands law (op_resize v signed) w x _ _ _ refl (Uniform-resize v signed w) q signed kind (λ a. wrap kind v a) (integer-resize signed kind v w some);
-      made = o.made;
-      room = o.room;
+      performs = o.performs;
+      means = λ kind. means_one m g.G.Gates.stands law (op_resize v signed) w x _ _ _ refl (Uniform-resize v signed w) q signed kind (λ a. wrap_bits kind v a) (integer-resize signed kind v w some);
       width = o.width;
-      keeps = o.keeps;
     }

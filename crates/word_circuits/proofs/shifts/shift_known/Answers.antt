@@ -1,5 +1,6 @@
 use Rattle.std.proofs.Common.{◌%◌, length, arith, refl, ap, ◌∙◌, rules}
-use Rattle.word_circuits.specs.Integers.{wrap, shift}
+use Rattle.oc_values.specs.Integers.{wrap_bits}
+use Rattle.word_circuits.specs.Integers.{shift}
 use Rattle.word_circuits.specs.Fragments.Operation.{op_shift_known}
 use Rattle.std.proofs.lemmas.Nat.{mod_below}
 use Rattle.word_circuits.proofs.Calling.{width_pos, width_most, width_of, owed, means_one, on_one}
@@ -32,10 +33,7 @@ returns g c =
     c.known-zero.ensures c.wires-wires.ensures.value refl c.moved_in-filler.ensures (ap (λ n. n % c.width.result) c.from.ensures ∙ ap (λ n. k % n) c.width.ensures.value) c.moved.ensures.items c.of_array.ensures) in
     let o = owed m g.G.Gates.stands g.G.Gates.made g.G.Gates.room law counts (op_shift_known k left signed) w x _ _ _ some refl (Uniform-shift_known k left signed w) (Counted-shift_known k left signed w some) q in
     record {
-      plays = o.plays;
-      means = means_one m g.G.Gates.stands law (op_shift_known k left signed) w x _ _ _ refl (Uniform-shift_known k left signed w) q signed signed (λ a. wrap signed w (shift left a (k % w))) (integer-shift_known left signed w k some);
-      made = o.made;
-      room = o.room;
+      performs = o.performs;
+      means = means_one m g.G.Gates.stands law (op_shift_known k left signed) w x _ _ _ refl (Uniform-shift_known k left signed w) q signed signed (λ a. wrap_bits signed w (shift left a (k % w))) (integer-shift_known left signed w k some);
       width = o.width;
-      keeps = o.keeps;
     }

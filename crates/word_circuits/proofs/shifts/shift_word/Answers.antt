@@ -1,5 +1,6 @@
 use Rattle.std.proofs.Common.{◌++◌, length, arith, refl, sym, ap, ◌∙◌, rules}
-use Rattle.word_circuits.specs.Integers.{wrap, shift, shift_amount}
+use Rattle.oc_values.specs.Integers.{wrap_bits, shift_amount}
+use Rattle.word_circuits.specs.Integers.{shift}
 use Rattle.word_circuits.specs.Choices.{shift_word_circuit}
 use Rattle.word_circuits.specs.Fragments.Operation.{op_shift_word}
 use Rattle.word_circuits.proofs.Calling.{width_pos, width_of, owed, carried_two, means_two, length-two, on_two}
@@ -29,10 +30,7 @@ returns g c =
     (λ d. carried_two m (λ u v. shift_word_circuit left signed (length u) u v) _ x _ y _ c.of_array.result _ _ c.wires.ensures.value c.wires-2.ensures.value c.of_array.ensures c.shift_wires.ensures.plays) in
     let o = owed m g.G.Gates.stands g.G.Gates.made g.G.Gates.room law g.met.G.Gates.counts (op_shift_word left signed) w (x ++ y) _ _ _ (omega (arith, some)) (length-two x y w refl same) (Uniform-shift_word left signed w) (Counted-shift_word left signed w) q in
     record {
-      plays = o.plays;
-      means = λ kind. means_two m g.G.Gates.stands law (op_shift_word left signed) w x y _ _ _ refl same (Uniform-shift_word left signed w) q signed kind signed (λ a b. wrap signed w (shift left a (shift_amount w b))) (integer-shift_two left signed kind w wide some);
-      made = o.made;
-      room = o.room;
+      performs = o.performs;
+      means = λ kind. means_two m g.G.Gates.stands law (op_shift_word left signed) w x y _ _ _ refl same (Uniform-shift_word left signed w) q signed kind signed (λ a b. wrap_bits signed w (shift left a (shift_amount w b))) (integer-shift_two left signed kind w wide some);
       width = o.width;
-      keeps = o.keeps;
     }

@@ -1,7 +1,7 @@
 use Rattle.std.proofs.Common.{◌≡◌, neg_ℤ, length, arith, refl, sym, ap, ◌∙◌, rules, replicate, subst}
 use Rattle.std.proofs.lemmas.List.{length-replicate}
 use Rattle.gate_core.specs.Circuit.{Plays}
-use Rattle.word_circuits.specs.Integers.{wrap}
+use Rattle.oc_values.specs.Integers.{wrap_bits}
 use Rattle.word_circuits.specs.Chains.{negate_circuit, subtract_circuit}
 use Rattle.word_circuits.specs.Fragments.Operation.{op_negate}
 use Rattle.word_circuits.proofs.Calling.{width_pos, width_most, width_of, carried_one, owed, means_one, on_one}
@@ -38,10 +38,7 @@ returns g c =
     let q = on_one m op_negate w x _ _ _ (λ d. p) in
     let o = owed m g.G.Gates.stands g.G.Gates.made g.G.Gates.room law g.met.G.Gates.counts op_negate w x _ _ _ some refl (Uniform-negate w) (Counted-negate w some) q in
     record {
-      plays = o.plays;
-      means = λ signed. means_one m g.G.Gates.stands law op_negate w x _ _ _ refl (Uniform-negate w) q signed signed (λ a. wrap signed w (neg_ℤ a)) (integer-negate signed w some);
-      made = o.made;
-      room = o.room;
+      performs = o.performs;
+      means = λ signed. means_one m g.G.Gates.stands law op_negate w x _ _ _ refl (Uniform-negate w) q signed signed (λ a. wrap_bits signed w (neg_ℤ a)) (integer-negate signed w some);
       width = o.width;
-      keeps = o.keeps;
     }

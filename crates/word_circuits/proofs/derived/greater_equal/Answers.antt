@@ -1,0 +1,36 @@
+use Rattle.std.proofs.Common.{false, not, int_lt, ◌-ℤ◌, [], ◌∷◌, ◌++◌, length, arith, refl, sym, ap, ◌∙◌, rules, subst}
+use Rattle.gate_core.specs.Circuit.{Plays, then}
+use Rattle.gate_core.proofs.Playing.{Plays-then}
+use Rattle.oc_values.specs.Integers.{number_of, is_zero}
+use Rattle.word_circuits.specs.Chains.{less_circuit, other_word}
+use Rattle.word_circuits.specs.Fragments.Operation.{op_greater_equal}
+use Rattle.word_circuits.proofs.Calling.{width_pos, width_most, width_of, owed, carried_two, means_two, length-two, on_two}
+use Rattle.word_circuits.proofs.Deriving.{Uniform-greater_equal, Counted-greater_equal, integer-greater_equal}
+use Rattle.word_circuits.proofs.derived.greater_equal.Goals as goal
+
+pub less_wires-below-requires : goal.less_wires-below-requires
+less_wires-below-requires g c =
+    let l = ap length c.wires.ensures.value in
+    let y = c.wires-2.ensures.value in
+    let some = width_pos _ c.wires.ensures.width in
+    (search rules, (some, (l ∙ c.requires.same ∙ ap length (sym y), (width_most _ c.wires.ensures.width, omega (arith, l, c.requires.same, c.requires.room)))))
+
+pub returns : goal.returns
+returns g c =
+    let m = g.G.Gates.calls in
+    let law = g.met.G.Gates.laws in
+    let signed = c.args.signed in
+    let x = c.args.x.now in
+    let y = c.args.y.now in
+    let w = length x in
+    let some = width_pos w (width_of _ x c.wires.ensures.value c.wires.ensures.width) in
+    let same = sym c.requires.same in
+    let q = on_two m (op_greater_equal signed) w (λ d u v. then (less_circuit signed w u v) (other_word d)) x y _ _ _ (λ d xs. refl) refl
+    (λ d. Plays-then m (less_circuit signed w x y) (other_word d) c.args.gates.now c.less_wires-below.new.gates c.less_wires-below.new.gates c.less_wires-below.result c.other_bit.result
+    (carried_two m (λ u v. less_circuit signed (length u) u v) _ x _ y _ c.less_wires-below.result _ _ c.wires.ensures.value c.wires-2.ensures.value refl c.less_wires-below.ensures) (c.other_bit.ensures d)) in
+    let o = owed m g.G.Gates.stands g.G.Gates.made g.G.Gates.room law g.met.G.Gates.counts (op_greater_equal signed) w (x ++ y) _ _ _ (omega (arith, some)) (length-two x y w refl same) (Uniform-greater_equal signed w) (Counted-greater_equal signed w some) q in
+    record {
+      performs = o.performs;
+      means = means_two m g.G.Gates.stands law (op_greater_equal signed) w x y _ _ _ refl same (Uniform-greater_equal signed w) q signed signed false (λ a b. number_of (not (int_lt a b))) (integer-greater_equal false signed w some);
+      width = o.width;
+    }
