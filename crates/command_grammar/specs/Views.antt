@@ -15,7 +15,11 @@ command_options_of options = map command_option_of options
 -- the command of a row
 abbrev pub command_of : {K : Type 0} → Row K → Command K
 command_of c = record {
-  kind = c.kind; name = c.name.now; operands = c.operands.now; options = command_options_of c.options.now; required = c.required.now
+  kind = c.kind;
+  name = c.name.now;
+  operands = c.operands.now;
+  options = command_options_of c.options.now;
+  required = c.required.now;
 }
 
 -- the commands of a table

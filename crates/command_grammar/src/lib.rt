@@ -15,4 +15,3 @@ pub use table::{Command, CommandOption};
 pub use values::{
     key_or_zeros, list_or_none, number_or, text_or_empty, value, word_at, words_from,
 };
-

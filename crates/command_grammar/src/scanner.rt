@@ -11,7 +11,7 @@ ghost use Rattle.command_grammar.specs.Sound.{is_sound, is_sound_command};
 ghost use Rattle.command_grammar.specs.Views.{command_option_of, command_options_of, command_of, commands_of};
 
 use crate::form::{WordForm, fits};
-use crate::table::{CommandOption, Command};
+use crate::table::{Command, CommandOption};
 
 /// Whether an option has this name, and its form this value.
 fn means(option: &CommandOption, name: &str, value: &str) -> bool

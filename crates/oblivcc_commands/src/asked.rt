@@ -4,7 +4,9 @@ ghost use Rattle.std.specs.Prelude.{◌≡◌, ◌≤◌};
 ghost use Rattle.command_grammar.specs.Grammar.{IsCommandOf, texts};
 ghost use Rattle.command_grammar.specs.Scanning.{operands_in, options_in};
 ghost use Rattle.oblivcc_commands.specs.Table.{clear_command, deal_command};
-ghost use Rattle.oblivcc_commands.specs.Asks.{Asks, AsksClear, AsksDeal};
+ghost use Rattle.oblivcc_commands.specs.Asked.{IsClear, IsDeal};
+ghost use Rattle.oblivcc_commands.specs.Asks.{Asks, HaveOneMeaning};
+ghost use Rattle.oblivcc_commands.specs.Views.{clear_of, deal_of};
 
 use crate::reader::read_words;
 use crate::table::{CommandKind, MOST_DEALT};
@@ -12,7 +14,7 @@ use command_grammar::{key_or_zeros, number_or, text_or_empty, value, word_at, wo
 
 /// What `clear` is asked for.
 #[derive(Clone, Copy)]
-pub struct ClearAsked<'w> {
+pub struct ClearWords<'w> {
     /// The source's name.
     pub file: &'w str,
     /// The name of the first party's input.
@@ -23,7 +25,7 @@ pub struct ClearAsked<'w> {
 
 /// What `deal` is asked for.
 #[derive(Clone, Copy)]
-pub struct DealAsked<'w> {
+pub struct DealWords<'w> {
     pub key: [u8; 32],
     /// How many transfers are dealt.
     pub count: u32,
@@ -36,17 +38,17 @@ pub struct DealAsked<'w> {
 /// What a command line asks for.
 #[derive(Clone, Copy)]
 pub enum Asked<'w> {
-    Clear(ClearAsked<'w>),
-    Deal(DealAsked<'w>),
+    Clear(ClearWords<'w>),
+    Deal(DealWords<'w>),
 }
 
 /// What the words of `clear` ask for.
-fn clear_asked(words: &[String]) -> ClearAsked<'_>
+fn read_clear(words: &[String]) -> ClearWords<'_>
     requires { IsCommandOf clear_command (texts words.now) (operands_in clear_command (texts words.now)) (options_in clear_command (texts words.now)) }
-    ensures { AsksClear (texts words.now) result }
+    ensures { IsClear (texts words.now) (clear_of result) }
 {
     let options = words_from(words, 2);
-    ClearAsked {
+    ClearWords {
         file: word_at(words, 1),
         first: text_or_empty(value(options, "--input1")),
         second: text_or_empty(value(options, "--input2")),
@@ -54,12 +56,12 @@ fn clear_asked(words: &[String]) -> ClearAsked<'_>
 }
 
 /// What the words of `deal` ask for.
-fn deal_asked(words: &[String]) -> DealAsked<'_>
+fn read_deal(words: &[String]) -> DealWords<'_>
     requires { IsCommandOf deal_command (texts words.now) (operands_in deal_command (texts words.now)) (options_in deal_command (texts words.now)) }
-    ensures { AsksDeal (texts words.now) result }
+    ensures { IsDeal (texts words.now) (deal_of result) }
 {
     let options = words_from(words, 1);
-    DealAsked {
+    DealWords {
         key: key_or_zeros(value(options, "--key")),
         count: number_or(value(options, "--count"), MOST_DEALT, 0) as u32,
         first: text_or_empty(value(options, "--out1")),
@@ -77,7 +79,12 @@ pub fn read_command(words: &[String]) -> Result<Asked<'_>, usize>
         Err(k) => return Err(k),
     };
     match command.kind {
-        CommandKind::Clear => Ok(Asked::Clear(clear_asked(words))),
-        CommandKind::Deal => Ok(Asked::Deal(deal_asked(words))),
+        CommandKind::Clear => Ok(Asked::Clear(read_clear(words))),
+        CommandKind::Deal => Ok(Asked::Deal(read_deal(words))),
     }
 }
+
+/// The law that words ask for one thing at most.
+pub fn have_one_meaning()
+    ensures { HaveOneMeaning }
+{}

@@ -3,7 +3,7 @@ use Rattle.command_grammar.specs.Grammar.{texts}
 use Rattle.command_grammar.specs.Scanning.{options_in}
 use Rattle.command_grammar.proofs.Answering.{required_key, required_number, required_text}
 use Rattle.oblivcc_commands.specs.Table.{deal_command}
-use Rattle.oblivcc_commands.proofs.asked.deal_asked.Goals as goal
+use Rattle.oblivcc_commands.proofs.asked.read_deal.Goals as goal
 
 pub returns : goal.returns
 returns c =

@@ -3,7 +3,7 @@ use Rattle.command_grammar.specs.Grammar.{IsCommandOf, texts}
 use Rattle.command_grammar.specs.Scanning.{options_in}
 use Rattle.command_grammar.proofs.Answering.{one_operand, required_text, words_enough}
 use Rattle.oblivcc_commands.specs.Table.{clear_command}
-use Rattle.oblivcc_commands.proofs.asked.clear_asked.Goals as goal
+use Rattle.oblivcc_commands.proofs.asked.read_clear.Goals as goal
 
 pub returns : goal.returns
 returns c =
