@@ -1,5 +1,5 @@
 -- Words ask for one thing at most.
-use Rattle.std.proofs.Common.{ℕ, ◌≡◌, List, [], ◌∷◌, Some, Ok, true, refl, sym, ap, ◌∙◌, subst, codes, get_or, lit<}
+use Rattle.std.proofs.Common.{ℕ, ◌≡◌, List, [], ◌∷◌, Some, refl, sym, ap, ◌∙◌, codes, get_or, lit<}
 use Rattle.std.specs.Prelude.{Contains}
 use Rattle.std.specs.Option.{unwrap_or}
 use Rattle.command_grammar.specs.Grammar.{Given, HasOneReading, IsCommand}

@@ -1,10 +1,10 @@
 -- What each command asks for.
-use Rattle.std.specs.Prelude.{ℕ, ◌≡◌, ◌≤◌, List, [], ◌∷◌, codes, Some, Result, Ok, Err}
+use Rattle.std.specs.Prelude.{ℕ, ◌≡◌, ◌≤◌, List, [], ◌∷◌, codes, Some, Ok}
 use Rattle.hex.specs.Hex.{decode_sized}
 use Rattle.command_grammar.specs.Forms.{decimal_value}
-use Rattle.command_grammar.specs.Grammar.{Given, IsCommandOf, Usage}
+use Rattle.command_grammar.specs.Grammar.{Given, IsCommandOf}
 use Rattle.command_grammar.specs.Values.{value_of}
-use Rattle.oblivcc_commands.specs.Table.{clear_command, commands, deal_command}
+use Rattle.oblivcc_commands.specs.Table.{clear_command, deal_command}
 
 -- what `clear` asks for: the names of the source and of the inputs of both parties
 pub record ClearAsked : Type 0 where
