@@ -1,0 +1,8 @@
+use Rattle.std.proofs.Common.{rules, tests, nat_eq}
+use Rattle.std.proofs.lemmas.Iterator.Search.{all_from_yields_List}
+use Rattle.std.proofs.lemmas.Iterator.Splits.{YieldsList-from_slice_split}
+use Rattle.command_grammar.specs.Forms.{is_signed}
+use Rattle.command_grammar.proofs.form.are_signed.Goals as goal
+
+pub returns : goal.returns
+returns c = all_from_yields_List is_signed _ _ c.all.result c.all.ensures.ran (YieldsList-from_slice_split _ (λ b. nat_eq b 44) c.args.word.now c.split.ensures.rest c.split.ensures.done c.split.ensures.closure (λ x r q k. search (rules, tests))) (λ x r q k. search (rules, tests))

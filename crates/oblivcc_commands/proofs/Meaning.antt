@@ -1,0 +1,63 @@
+-- Words ask for one thing at most.
+use Rattle.std.proofs.Common.{ℕ, ◌≡◌, List, [], ◌∷◌, Some, refl, sym, ap, ◌∙◌, codes, get_or, lit<}
+use Rattle.std.specs.Prelude.{Contains}
+use Rattle.std.specs.Option.{unwrap_or}
+use Rattle.command_grammar.specs.Grammar.{Given, HasOneReading, IsCommand}
+use Rattle.command_grammar.specs.Values.{value_of}
+use Rattle.command_grammar.proofs.Fronts.{one_reading}
+use Rattle.oblivcc_commands.specs.Table.{clear_command, commands, deal_command}
+use Rattle.oblivcc_commands.specs.Asked.{ClearAsked, DealAsked, IsClear, IsDeal}
+
+clear_listed : Contains commands clear_command
+clear_listed = (0, lit< tt, refl)
+
+deal_listed : Contains commands deal_command
+deal_listed = (1, lit< tt, refl)
+
+one : HasOneReading commands
+one = one_reading commands refl
+
+-- options that are the same give one value to a name
+same_value : (gs hs : List Given) (name v w : List ℕ) → gs ≡ hs → value_of gs name ≡ Some v → value_of hs name ≡ Some w → v ≡ w
+same_value gs hs name v w same e f = ap (λ o. unwrap_or o v) (sym e ∙ ap (λ xs. value_of xs name) same ∙ f)
+
+pub clear_once : (ws : List (List ℕ)) (d e : ClearAsked) → IsClear ws d → IsClear ws e → d ≡ e
+clear_once ws d e p q =
+    let r = one ws clear_command clear_command clear_listed clear_listed (d.file ∷ []) (e.file ∷ []) p.given q.given p.command q.command in
+    let file : d.file ≡ e.file = ap (λ ws. get_or ws 0 []) r.1 in
+    let first = same_value p.given q.given (codes "--input1") d.first e.first r.2 p.first q.first in
+    let second = same_value p.given q.given (codes "--input2") d.second e.second r.2 p.second q.second in
+    ap (λ x. asked x d.first d.second) file ∙ ap (λ x. asked e.file x d.second) first ∙ ap (λ x. asked e.file e.first x) second
+  where
+    asked : List ℕ → List ℕ → List ℕ → ClearAsked
+    asked file first second = record { file = file; first = first; second = second }
+
+pub deal_once : (ws : List (List ℕ)) (d e : DealAsked) → IsDeal ws d → IsDeal ws e → d ≡ e
+deal_once ws d e p q =
+    let r = one ws deal_command deal_command deal_listed deal_listed [] [] p.given q.given p.command q.command in
+    let key_word = same_value p.given q.given (codes "--key") p.key_word q.key_word r.2 p.key_given q.key_given in
+    let count_word = same_value p.given q.given (codes "--count") p.count_word q.count_word r.2 p.count_given q.count_given in
+    let key : d.key ≡ e.key = cc (key_word, p.key, q.key) in
+    let count : d.count ≡ e.count = cc (count_word, p.count, q.count) in
+    let first = same_value p.given q.given (codes "--out1") d.first e.first r.2 p.first q.first in
+    let second = same_value p.given q.given (codes "--out2") d.second e.second r.2 p.second q.second in
+    ap (λ x. asked x d.count d.first d.second) key ∙ ap (λ x. asked e.key x d.first d.second) count ∙ ap (λ x. asked e.key e.count x d.second) first
+    ∙ ap (λ x. asked e.key e.count e.first x) second
+  where
+    asked : List ℕ → ℕ → List ℕ → List ℕ → DealAsked
+    asked key count first second = record { key = key; count = count; first = first; second = second }
+
+pub not_both : (ws : List (List ℕ)) (d : ClearAsked) (e : DealAsked) → IsClear ws d → IsDeal ws e → ⊥
+not_both ws d e p q =
+    let r = one ws clear_command deal_command clear_listed deal_listed (d.file ∷ []) [] p.given q.given p.command q.command in
+    apart (ap (λ c. c.kind) r.0)
+  where
+    apart : clear_command.kind ≡ deal_command.kind → ⊥
+    apart e = absurd cc
+
+-- what asks for something is a command
+pub clear_is : (ws : List (List ℕ)) (d : ClearAsked) → IsClear ws d → IsCommand commands ws
+clear_is ws d p = (clear_command, clear_listed, d.file ∷ [], p.given, p.command)
+
+pub deal_is : (ws : List (List ℕ)) (d : DealAsked) → IsDeal ws d → IsCommand commands ws
+deal_is ws d p = (deal_command, deal_listed, [], p.given, p.command)

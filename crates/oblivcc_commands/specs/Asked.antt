@@ -1,0 +1,41 @@
+-- What each command asks for.
+use Rattle.std.specs.Prelude.{ℕ, ◌≡◌, ◌≤◌, List, [], ◌∷◌, codes, Some, Ok}
+use Rattle.hex.specs.Hex.{decode_sized}
+use Rattle.command_grammar.specs.Forms.{decimal_value}
+use Rattle.command_grammar.specs.Grammar.{Given, IsCommandOf}
+use Rattle.command_grammar.specs.Values.{value_of}
+use Rattle.oblivcc_commands.specs.Table.{clear_command, deal_command}
+
+-- what `clear` asks for: the names of the source and of the inputs of both parties
+pub record ClearAsked : Type 0 where
+  pub file : List ℕ
+  pub first : List ℕ
+  pub second : List ℕ
+
+-- the words are `clear` and ask for this
+pub record IsClear (words : List (List ℕ)) (d : ClearAsked) : Type 0 where
+  pub given : List Given
+  pub command : IsCommandOf clear_command words (d.file ∷ []) given
+  pub first : value_of given (codes "--input1") ≡ Some d.first
+  pub second : value_of given (codes "--input2") ≡ Some d.second
+
+-- what `deal` asks for: the key's 32 bytes, the number of transfers, and the names of the sender's and the receiver's file
+pub record DealAsked : Type 0 where
+  pub key : List ℕ
+  pub count : ℕ
+  pub first : List ℕ
+  pub second : List ℕ
+
+-- the words are `deal` and ask for this
+pub record IsDeal (words : List (List ℕ)) (d : DealAsked) : Type 0 where
+  pub given : List Given
+  pub command : IsCommandOf deal_command words [] given
+  pub key_word : List ℕ
+  pub key_given : value_of given (codes "--key") ≡ Some key_word
+  pub key : decode_sized key_word 32 ≡ Ok d.key
+  pub count_word : List ℕ
+  pub count_given : value_of given (codes "--count") ≡ Some count_word
+  pub count : d.count ≡ decimal_value count_word
+  pub few : d.count ≤ 1048576
+  pub first : value_of given (codes "--out1") ≡ Some d.first
+  pub second : value_of given (codes "--out2") ≡ Some d.second

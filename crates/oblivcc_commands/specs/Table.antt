@@ -1,0 +1,43 @@
+-- The commands. The slots of an option are numbers that the options of one command share out.
+use Rattle.std.specs.Prelude.{List, [], ◌∷◌, codes}
+use Rattle.command_grammar.specs.declared.form.WordForm.TheVariants.{Any, Number, Key}
+use Rattle.command_grammar.specs.Grammar.{Command}
+use Rattle.oblivcc_commands.specs.declared.table.CommandKind.{CommandKind}
+use Rattle.oblivcc_commands.specs.declared.table.CommandKind.TheVariants.{Clear, Deal}
+
+-- `clear FILE --input1 F --input2 F`
+abbrev pub clear_command : Command CommandKind
+clear_command = record {
+  kind = Clear;
+  name = codes "clear";
+  operands = Any ∷ [];
+  options =
+      record { name = codes "--input1"; form = Any; slots = 0 ∷ [] } ∷
+      record { name = codes "--input2"; form = Any; slots = 1 ∷ [] } ∷
+      [];
+  required = 0 ∷ 1 ∷ [];
+}
+
+-- `deal --key K --count N --out1 F --out2 F`
+abbrev pub deal_command : Command CommandKind
+deal_command = record {
+  kind = Deal;
+  name = codes "deal";
+  operands = [];
+  options =
+      record { name = codes "--key"; form = Key; slots = 0 ∷ [] } ∷
+      record { name = codes "--count"; form = Number 0 1048576; slots = 1 ∷ [] } ∷
+      record { name = codes "--out1"; form = Any; slots = 2 ∷ [] } ∷
+      record { name = codes "--out2"; form = Any; slots = 3 ∷ [] } ∷
+      [];
+  required = 0 ∷ 1 ∷ 2 ∷ 3 ∷ [];
+}
+
+-- all of them
+abbrev pub commands : List (Command CommandKind)
+commands = clear_command ∷ deal_command ∷ []
+
+-- the command of a kind
+abbrev pub command_for : CommandKind → Command CommandKind
+command_for Clear = clear_command
+command_for Deal = deal_command

@@ -1,0 +1,12 @@
+-- What was read of a command line as one of the definitions.
+use Rattle.oblivcc_commands.specs.Asked.{ClearAsked, DealAsked}
+use Rattle.oblivcc_commands.specs.declared.asked.ClearWords.{ClearWords}
+use Rattle.oblivcc_commands.specs.declared.asked.DealWords.{DealWords}
+
+-- what the words of `clear` ask for
+abbrev pub clear_of : ClearWords → ClearAsked
+clear_of w = record { file = w.file.now; first = w.first.now; second = w.second.now }
+
+-- what the words of `deal` ask for
+abbrev pub deal_of : DealWords → DealAsked
+deal_of w = record { key = w.key; count = w.count; first = w.first.now; second = w.second.now }
