@@ -1,0 +1,4 @@
+pub mod Small
+pub mod Conditions
+pub mod Loops
+pub mod Traps
