@@ -13,7 +13,7 @@ use Rattle.type_rules.specs.declared.judging.TypeRule.TheVariants.{T2, T3, T12}
 use Rattle.type_rules.specs.declared.judging.Refusal.{Refusal}
 use Rattle.type_rules.specs.declared.judging.Found.{Found}
 use Rattle.type_rules.specs.Judging.{Judged, next, needs, public_integer}
-use Rattle.type_rules.specs.Nodes.{Site, value_of, valued, convert}
+use Rattle.type_rules.specs.Nodes.{Lookup, value_of, valued, convert}
 use Rattle.oc_typed.specs.declared.typed.TDeclared as typed_declared
 use Rattle.type_rules.specs.Written.{field_type, is_frozen_place}
 use Rattle.type_rules.specs.Rules.{add, is_taken, initial, declare, declare_all, expr, Scope, Walk, bind, pure, ask, at, scoped, typed_value, typed_alone, value_in, alone_in, made, stmt, stmts, part, other}
@@ -45,11 +45,11 @@ unfolding next
 of_value (Ok f) k s z h = (f, refl, h)
 of_value (Err y) k s z h = absurd (not_both z y h)
 
-value_then : {B : Type 0} (g : Site) (e : Expr) (k : TExpr → Walk B) (s : Scope) (z : B × Scope) → bind (value_in g e) k s ≡ Ok z → (f : Found) × (expr (at g s) false e.spot e.node ≡ Ok f) × (k (value_of f) s ≡ Ok z)
+value_then : {B : Type 0} (g : Lookup) (e : Expr) (k : TExpr → Walk B) (s : Scope) (z : B × Scope) → bind (value_in g e) k s ≡ Ok z → (f : Found) × (expr (at g s) false e.spot e.node ≡ Ok f) × (k (value_of f) s ≡ Ok z)
 unfolding typed_value
 value_then g e k s z h = of_value (expr (at g s) false e.spot e.node) k s z h
 
-alone_then : {B : Type 0} (g : Site) (e : Expr) (k : TExpr → Walk B) (s : Scope) (z : B × Scope) → bind (alone_in g e) k s ≡ Ok z → (f : Found) × (expr (at g s) true e.spot e.node ≡ Ok f) × (k (value_of f) s ≡ Ok z)
+alone_then : {B : Type 0} (g : Lookup) (e : Expr) (k : TExpr → Walk B) (s : Scope) (z : B × Scope) → bind (alone_in g e) k s ≡ Ok z → (f : Found) × (expr (at g s) true e.spot e.node ≡ Ok f) × (k (value_of f) s ≡ Ok z)
 unfolding typed_alone
 alone_then g e k s z h = of_value (expr (at g s) true e.spot e.node) k s z h
 
@@ -75,11 +75,11 @@ unfolding next
 bad_value (Ok f) k s x h a b = b f refl h
 bad_value (Err y) k s x h a b = a (err_back y x h)
 
-value_bad : {B R : Type 0} (g : Site) (e : Expr) (k : TExpr → Walk B) (s : Scope) (x : Refusal) → bind (value_in g e) k s ≡ Err x → (expr (at g s) false e.spot e.node ≡ Err x → R) → ((f : Found) → expr (at g s) false e.spot e.node ≡ Ok f → k (value_of f) s ≡ Err x → R) → R
+value_bad : {B R : Type 0} (g : Lookup) (e : Expr) (k : TExpr → Walk B) (s : Scope) (x : Refusal) → bind (value_in g e) k s ≡ Err x → (expr (at g s) false e.spot e.node ≡ Err x → R) → ((f : Found) → expr (at g s) false e.spot e.node ≡ Ok f → k (value_of f) s ≡ Err x → R) → R
 unfolding typed_value
 value_bad g e k s x h a b = bad_value (expr (at g s) false e.spot e.node) k s x h a b
 
-alone_bad : {B R : Type 0} (g : Site) (e : Expr) (k : TExpr → Walk B) (s : Scope) (x : Refusal) → bind (alone_in g e) k s ≡ Err x → (expr (at g s) true e.spot e.node ≡ Err x → R) → ((f : Found) → expr (at g s) true e.spot e.node ≡ Ok f → k (value_of f) s ≡ Err x → R) → R
+alone_bad : {B R : Type 0} (g : Lookup) (e : Expr) (k : TExpr → Walk B) (s : Scope) (x : Refusal) → bind (alone_in g e) k s ≡ Err x → (expr (at g s) true e.spot e.node ≡ Err x → R) → ((f : Found) → expr (at g s) true e.spot e.node ≡ Ok f → k (value_of f) s ≡ Err x → R) → R
 unfolding typed_alone
 alone_bad g e k s x h a b = bad_value (expr (at g s) true e.spot e.node) k s x h a b
 
@@ -100,14 +100,14 @@ walk_bad : {A B R : Type 0} (w : Walk A) (k : A → Walk B) (s : Scope) (x : Ref
 walk_bad w k s x h a b = broken (w s) (λ r. k r.0 r.1) x h a b
 
 -- what moves can carry back over the steps before them
-pub record Carried (g : Site) (K : Scope → Moves → Type 0) : Type 0 where
+pub record Carried (g : Lookup) (K : Scope → Moves → Type 0) : Type 0 where
   pub more : (s q : Scope) (v : Step) (vs : Moves) → Fine g s v q → K q vs → K s (More v vs)
   pub inside : (s q : Scope) (us vs : Moves) → AllFine g (deeper s) us q → K (back s q) vs → K s (Inside us vs)
 
-pub fine_carried : (g : Site) (r : Scope) → Carried g (λ s vs. AllFine g s vs r)
+pub fine_carried : (g : Lookup) (r : Scope) → Carried g (λ s vs. AllFine g s vs r)
 fine_carried g r = record { more = λ s q v vs a b. (q, a, b); inside = λ s q us vs a b. (q, a, b) }
 
-pub fault_carried : (g : Site) (x : Refusal) → Carried g (λ s vs. FirstFault g s vs x)
+pub fault_carried : (g : Lookup) (x : Refusal) → Carried g (λ s vs. FirstFault g s vs x)
 fault_carried g x = record { more = λ s q v vs a b. inr (q, a, b); inside = λ s q us vs a b. inr (q, a, b) }
 
 -- a walk in a scope of its own
@@ -122,39 +122,39 @@ unfolding next
 mark_then y k s r h = h
 
 -- what an expression that may be left out is
-abbrev Optional : Site → Scope → Option Expr → Option TExpr → Type 0
+abbrev Optional : Lookup → Scope → Option Expr → Option TExpr → Type 0
 Optional g s None y = y ≡ None
 Optional g s (Some e) y = (f : Found) × (expr (at g s) false e.spot e.node ≡ Ok f) × (y ≡ Some (value_of f))
 
-optional_then : {B : Type 0} (g : Site) (o : Option Expr) (k : Option TExpr → Walk B) (s : Scope) (z : B × Scope) → bind (optional_in g o) k s ≡ Ok z → (y : Option TExpr) × Optional g s o y × (k y s ≡ Ok z)
+optional_then : {B : Type 0} (g : Lookup) (o : Option Expr) (k : Option TExpr → Walk B) (s : Scope) (z : B × Scope) → bind (optional_in g o) k s ≡ Ok z → (y : Option TExpr) × Optional g s o y × (k y s ≡ Ok z)
 unfolding next
 optional_then g None k s z h = (None, refl, h)
 optional_then g (Some e) k s z h = let a = walk_then (optional_in g (Some e)) k s z h in let b = value_then g e (λ v. pure (Some v)) s a.0 a.1 in (Some (value_of b.0), (b.0, b.1, refl), subst (λ (r : Option TExpr × Scope). k r.0 r.1 ≡ Ok z) (sym (fine_back _ _ b.2)) a.2)
 
-optional_bad : {B R : Type 0} (g : Site) (o : Option Expr) (k : Option TExpr → Walk B) (s : Scope) (x : Refusal) (rest : Moves) → bind (optional_in g o) k s ≡ Err x → (FirstFault g s (optional_moves o rest) x → R) → ((y : Option TExpr) → Optional g s o y → k y s ≡ Err x → R) → R
+optional_bad : {B R : Type 0} (g : Lookup) (o : Option Expr) (k : Option TExpr → Walk B) (s : Scope) (x : Refusal) (rest : Moves) → bind (optional_in g o) k s ≡ Err x → (FirstFault g s (optional_moves o rest) x → R) → ((y : Option TExpr) → Optional g s o y → k y s ≡ Err x → R) → R
 unfolding next
 optional_bad g None k s x rest h a b = b None refl h
 optional_bad g (Some e) k s x rest h a b = walk_bad (optional_in g (Some e)) k s x h
     (λ i. value_bad g e (λ v. pure (Some v)) s x i (λ j. a (inl (faults (at g s) false e.spot e.node x j))) (λ f j l. never _ x l))
     (λ r i j. let q = value_then g e (λ v. pure (Some v)) s r i in b (Some (value_of q.0)) (q.0, q.1, refl) (subst (λ (t : Option TExpr × Scope). k t.0 t.1 ≡ Err x) (sym (fine_back _ _ q.2)) j))
 
-tested_fine : (g : Site) (s : Scope) (p : Spot) (o : Option Expr) (y : Option TExpr) (u : Unit {0}) → Optional g s o y → condition p y ≡ Ok u → Fine g s (Tested p o) s
+tested_fine : (g : Lookup) (s : Scope) (p : Spot) (o : Option Expr) (y : Option TExpr) (u : Unit {0}) → Optional g s o y → condition p y ≡ Ok u → Fine g s (Tested p o) s
 tested_fine g s p None y u a h = refl
 tested_fine g s p (Some e) y u a h = (a.0, found (at g s) false e.spot e.node a.0 a.1, subst (λ t. condition p t ≡ Ok u) a.2 h, refl)
 
-tested_bad : (g : Site) (s : Scope) (p : Spot) (o : Option Expr) (y : Option TExpr) (x : Refusal) → Optional g s o y → condition p y ≡ Err x → Breaks g s (Tested p o) x
+tested_bad : (g : Lookup) (s : Scope) (p : Spot) (o : Option Expr) (y : Option TExpr) (x : Refusal) → Optional g s o y → condition p y ≡ Err x → Breaks g s (Tested p o) x
 tested_bad g s p None y x a h = never tt x (subst (λ t. condition p t ≡ Err x) a h)
 tested_bad g s p (Some e) y x a h = (a.0, found (at g s) false e.spot e.node a.0 a.1, subst (λ t. condition p t ≡ Err x) a.2 h)
 
-gives_fine : (g : Site) (s : Scope) (p : Spot) (o : Option Expr) (y v : Option TExpr) → Optional g s o y → returned g p y ≡ Ok v → Fine g s (Gives p o) s
+gives_fine : (g : Lookup) (s : Scope) (p : Spot) (o : Option Expr) (y v : Option TExpr) → Optional g s o y → returned g p y ≡ Ok v → Fine g s (Gives p o) s
 gives_fine g s p None y v a h = (v, subst (λ t. returned g p t ≡ Ok v) a h, refl)
 gives_fine g s p (Some e) y v a h = (a.0, v, found (at g s) false e.spot e.node a.0 a.1, subst (λ t. returned g p t ≡ Ok v) a.2 h, refl)
 
-gives_bad : (g : Site) (s : Scope) (p : Spot) (o : Option Expr) (y : Option TExpr) (x : Refusal) → Optional g s o y → returned g p y ≡ Err x → Breaks g s (Gives p o) x
+gives_bad : (g : Lookup) (s : Scope) (p : Spot) (o : Option Expr) (y : Option TExpr) (x : Refusal) → Optional g s o y → returned g p y ≡ Err x → Breaks g s (Gives p o) x
 gives_bad g s p None y x a h = subst (λ t. returned g p t ≡ Err x) a h
 gives_bad g s p (Some e) y x a h = (a.0, found (at g s) false e.spot e.node a.0 a.1, subst (λ t. returned g p t ≡ Err x) a.2 h)
 
-through_optional : (g : Site) (K : Scope → Moves → Type 0) → Carried g K → (o : Option Expr) (s : Scope) (y : Option TExpr) (rest : Moves) → Optional g s o y → K s rest → K s (optional_moves o rest)
+through_optional : (g : Lookup) (K : Scope → Moves → Type 0) → Carried g K → (o : Option Expr) (s : Scope) (y : Option TExpr) (rest : Moves) → Optional g s o y → K s rest → K s (optional_moves o rest)
 through_optional g K c None s y rest a k = k
 through_optional g K c (Some e) s y rest a k = c.more s s (Value e) rest (a.0, found (at g s) false e.spot e.node a.0 a.1, refl) k
 
@@ -166,7 +166,7 @@ is_it : (p : Spot) (b : Bool) (x : Refusal) → needs p T2 (not b) ≡ Err x →
 is_it p false x h = absurd (not_both tt x (sym h))
 is_it p true x h = (refl, sym (fault_back _ _ h))
 
-module _ (g : Site) where
+module _ (g : Lookup) where
   through_first : (K : Scope → Moves → Type 0) → Carried g K → (d : Declared) (ty : CType) → field_type g d.field ≡ Ok ty → (o : Option Expr) (s : Scope) (z : Option TExpr × Scope) (rest : Moves) → initial g ty o s ≡ Ok z → K z.1 rest → K s (first_moves d o rest)
   through_first K c d ty e None s z rest h k = subst (λ t. K t rest) (sym (scope_of _ _ _ _ h)) k
   through_first K c d ty e (Some v) s z rest h k =
@@ -196,7 +196,7 @@ module _ (g : Site) where
       let b = walk_then (declare_all g ds) (λ xs. pure (a.0.0 ∷ xs)) a.0.1 z a.2 in
       through_declare K c d s a.0 (declared_moves ds rest) a.1 (through_declares K c ds a.0.1 b.0 rest b.1 (subst (λ t. K t rest) (sym (scope_of _ _ _ _ b.2)) k))
 
-through_header : (g : Site) (K : Scope → Moves → Type 0) → Carried g K → (i : ForInit) (s : Scope) (z : typed_init.TForInit × Scope) (rest : Moves) → header g i s ≡ Ok z → K z.1 rest → K s (header_moves i rest)
+through_header : (g : Lookup) (K : Scope → Moves → Type 0) → Carried g K → (i : ForInit) (s : Scope) (z : typed_init.TForInit × Scope) (rest : Moves) → header g i s ≡ Ok z → K z.1 rest → K s (header_moves i rest)
 through_header g K c begin.Nothing s z rest h k = subst (λ t. K t rest) (sym (scope_of _ _ _ _ h)) k
 through_header g K c (begin.Declare ds) s z rest h k =
     let a = walk_then (declare_all g ds) (λ xs. pure (init.Declare xs)) s z h in
@@ -205,7 +205,7 @@ through_header g K c (begin.Express e) s z rest h k =
     let a = value_then g e (λ v. pure (init.Express v)) s z h in
     c.more s s (Value e) rest (a.0, found (at g s) false e.spot e.node a.0 a.1, refl) (subst (λ t. K t rest) (sym (scope_of _ _ _ _ a.2)) k)
 
-module _ (g : Site) where
+module _ (g : Lookup) where
   faults_first : (d : Declared) (ty : CType) → field_type g d.field ≡ Ok ty → (o : Option Expr) (s : Scope) (x : Refusal) (rest : Moves) → initial g ty o s ≡ Err x → FirstFault g s (first_moves d o rest) x
   faults_first d ty e None s x rest h = never _ x h
   faults_first d ty e (Some v) s x rest h =
@@ -224,12 +224,12 @@ module _ (g : Site) where
       walk_bad (declare g d) (λ y. bind (declare_all g ds) (λ ys. pure (y ∷ ys))) s x h (λ i. faults_declare d s x (declared_moves ds rest) i) (λ r i j.
       through_declare g (λ q us. FirstFault g q us x) (fault_carried g x) d s r (declared_moves ds rest) i (walk_bad (declare_all g ds) (λ ys. pure (r.0 ∷ ys)) r.1 x j (λ i2. faults_declares ds r.1 x rest i2) (λ r2 i2 j2. never _ x j2)))
 
-faults_header : (g : Site) (i : ForInit) (s : Scope) (x : Refusal) (rest : Moves) → header g i s ≡ Err x → FirstFault g s (header_moves i rest) x
+faults_header : (g : Lookup) (i : ForInit) (s : Scope) (x : Refusal) (rest : Moves) → header g i s ≡ Err x → FirstFault g s (header_moves i rest) x
 faults_header g begin.Nothing s x rest h = never _ x h
 faults_header g (begin.Declare ds) s x rest h = walk_bad (declare_all g ds) (λ xs. pure (init.Declare xs)) s x h (λ i. faults_declares g ds s x rest i) (λ r i j. never _ x j)
 faults_header g (begin.Express e) s x rest h = value_bad g e (λ v. pure (init.Express v)) s x h (λ i. inl (faults (at g s) false e.spot e.node x i)) (λ f i j. never _ x j)
 
-module _ (g : Site) where
+module _ (g : Lookup) where
   mutual
     -- a statement that is typed carries back what holds of the moves after it
     pub through : (K : Scope → Moves → Type 0) → Carried g K → (loop : Bool) (p : Spot) (n : StmtNode) (s : Scope) (z : typed.TStmt × Scope) (rest : Moves) → stmt g loop p n s ≡ Ok z → K z.1 rest → K s (moves loop p n rest)

@@ -9,7 +9,7 @@ use Rattle.type_rules.specs.declared.judging.Refusal.{Refusal}
 use Rattle.type_rules.specs.declared.judging.Found.{Found}
 use Rattle.type_rules.specs.Judging.{Judged, needs, public_integer}
 use Rattle.oc_cells.specs.Types.{is_integer}
-use Rattle.type_rules.specs.Nodes.{Site, value_of, convert}
+use Rattle.type_rules.specs.Nodes.{Lookup, value_of, convert}
 use Rattle.type_rules.specs.Written.{is_frozen_place}
 use Rattle.type_rules.specs.Rules.{Scope, at, add, returned, stmt}
 use Rattle.type_rules.specs.Typing.{Typing}
@@ -27,14 +27,14 @@ same_fault {A = A} {m = m} x y h k = ap (λ (r : Judged A). from_err x r) (sym h
 clash : {A R : Type 0} {m : Judged A} (a : A) (x : Refusal) → m ≡ Ok a → m ≡ Err x → R
 clash a x h k = absurd (not_both a x (sym k ∙ h))
 
-same_found : (g : Site) (alone : Bool) (p : Spot) (n : ExprNode) (f h : Found) → Typing g alone p n f → Typing g alone p n h → f ≡ h
+same_found : (g : Lookup) (alone : Bool) (p : Spot) (n : ExprNode) (f h : Found) → Typing g alone p n f → Typing g alone p n h → f ≡ h
 same_found g alone p n f h a b = same_answer f h (holds g alone p n f a) (holds g alone p n h b)
 
 abbrev Untrue : Bool → Type 0
 Untrue true = ⊥
 Untrue false = Unit {0}
 
-module _ (g : Site) where
+module _ (g : Lookup) where
   -- a step leads to one scope
   one_scope : (s q r : Scope) (v : Step) → Fine g s v q → Fine g s v r → q ≡ r
   one_scope s q r (Alone v) a b = a.2 ∙ sym b.2

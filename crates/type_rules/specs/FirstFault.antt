@@ -11,7 +11,7 @@ use Rattle.type_rules.specs.declared.judging.TypeRule.TheVariants.{T1, T7, T8, T
 use Rattle.type_rules.specs.declared.judging.Refusal.{Refusal}
 use Rattle.type_rules.specs.declared.judging.Found.{Found}
 use Rattle.type_rules.specs.Judging.{breaks}
-use Rattle.type_rules.specs.Nodes.{Site, find, value_of, is, convert, number, variable, unary, bump, operate, logic, choice, assign, index, field, arrow, cast, Called, Variable, Unknown, Print, Own, Known, called, Given, given_as, Way, ByValue, ByPrivate, BySize, own_called, private_word, function_called, format_of, asked, Printed, printed_value, print_called}
+use Rattle.type_rules.specs.Nodes.{Lookup, find, value_of, is, convert, number, variable, unary, bump, operate, logic, choice, assign, index, field, arrow, cast, Called, Variable, Unknown, Print, Own, Known, called, Given, given_as, Way, ByValue, ByPrivate, BySize, own_called, private_word, function_called, format_of, asked, Printed, printed_value, print_called}
 use Rattle.type_rules.specs.Written.{type_name}
 use Rattle.oc_values.specs.declared.integers.IntKind.{IntKind}
 use Rattle.type_rules.specs.declared.judging.Want.{Want}
@@ -31,6 +31,7 @@ pub data Visit : Type 0 where
   Counted : Row_of-Expr 1 → Visit
   Shown : IntKind → Spot → ExprNode → Visit
 
+-- of a call, by what the name is
 abbrev pub order_of_call : Called → List Visit → List Visit → List Visit → List Visit
 order_of_call (Own c) vs gs ps = gs
 order_of_call Print vs gs ps = ps
@@ -44,18 +45,20 @@ order_of_way ByValue vs w ps q ss = vs ++ (w ∷ [])
 order_of_way ByPrivate vs w ps q ss = ps ++ (q ∷ [])
 order_of_way BySize vs w ps q ss = ss
 
+-- of a product with a `sizeof`, whose parts go from left to right
 abbrev pub order_of_product : Option TypeName → Option TypeName → List Visit → List Visit → Visit → Visit → List Visit
 order_of_product (Some w) o ls rs l r = SizeType w ∷ (rs ++ (r ∷ []))
 order_of_product None (Some w) ls rs l r = ls ++ (l ∷ SizeType w ∷ [])
 order_of_product None None ls rs l r = []
 
+-- of the first argument of a print: a text is not visited
 abbrev pub order_of_head : Option (List ℕ) → List Visit → List Visit
 order_of_head (Some x) vs = []
 order_of_head None vs = vs
 
 abbrev mutual
   -- the parts of a node in the order of visits
-  pub parts : Site → ExprNode → List Visit
+  pub parts : Lookup → ExprNode → List Visit
   parts g (Number l) = []
   parts g NullPointer = []
   parts g (Named x) = []
@@ -71,45 +74,56 @@ abbrev mutual
   parts g (Field' _ e x) = order1 g e
   parts g (Arrow' _ e x) = order1 g e
   parts g (Cast' w _ e) = Written w ∷ order1 g e
-  parts g (Call' x _ es) = order_of_call (called g x) (order_all g (params_of (called g x)) es) (order_given g (wants_of (called g x)) es) (order_print g es)
+  parts g (Call' x _ es) =
+      order_of_call (called g x) (order_all g (params_of (called g x)) es) (order_given g (wants_of (called g x)) es) (order_print g es)
 
-  pub order_all : {m : _} → Site → List CType → Row_of-Expr m → List Visit
+  -- of arguments of a function
+  pub order_all : {m : _} → Lookup → List CType → Row_of-Expr m → List Visit
   order_all g tys end_of-Expr = []
   order_all g [] (more_of-Expr p n rest) = parts g n ++ (Node false p n ∷ order_all g [] rest)
   order_all g (ty ∷ tys) (more_of-Expr p n rest) = parts g n ++ (Node false p n ∷ Argument ty p n ∷ order_all g tys rest)
 
-  pub order_given : {m : _} → Site → List Want → Row_of-Expr m → List Visit
+  -- of arguments of a call of the language's own
+  pub order_given : {m : _} → Lookup → List Want → Row_of-Expr m → List Visit
   order_given g ws end_of-Expr = []
   order_given g [] (more_of-Expr p n rest) = parts g n ++ (Node false p n ∷ order_given g [] rest)
-  order_given g (w ∷ ws) (more_of-Expr p n rest) = order_of_way (way g w n) (parts g n ++ (Node false p n ∷ [])) (Wanted w p n) (private_parts g n) (PrivateWord p n) (size_parts g n) ++ order_given g ws rest
+  order_given g (w ∷ ws) (more_of-Expr p n rest) =
+      order_of_way (way g w n) (parts g n ++ (Node false p n
+      ∷ [])) (Wanted w p n) (private_parts g n) (PrivateWord p n) (size_parts g n) ++ order_given g ws rest
 
-  pub private_parts : Site → ExprNode → List Visit
+  -- of the arguments of an `ocPrivate`
+  pub private_parts : Lookup → ExprNode → List Visit
   private_parts g (Call' x _ es) = order_given g (want.Index ∷ []) es
   private_parts g _ = []
 
-  pub size_parts : Site → ExprNode → List Visit
+  -- of a `sizeof`, or its product with a number
+  pub size_parts : Lookup → ExprNode → List Visit
   size_parts g (SizeOf w) = SizeType w ∷ []
   size_parts g (Binary' op _ l _ r) = order_of_product (sizeof_row l) (sizeof_row r) (order1 g l) (order1 g r) (Counted l) (Counted r)
   size_parts g _ = []
 
-  pub order_print : {m : _} → Site → Row_of-Expr m → List Visit
+  -- of the arguments of a print
+  pub order_print : {m : _} → Lookup → Row_of-Expr m → List Visit
   order_print g end_of-Expr = []
-  order_print g (more_of-Expr q n rest) = order_of_head (text_of n) (parts g n ++ (Node false q n ∷ [])) ++ order_printed g (asked (format_of (text_of n)).pieces) rest
+  order_print g (more_of-Expr q n rest) =
+      order_of_head (text_of n) (parts g n ++ (Node false q n ∷ [])) ++ order_printed g (asked (format_of (text_of n)).pieces) rest
 
-  pub order_printed : {m : _} → Site → List IntKind → Row_of-Expr m → List Visit
+  -- of the values of a print
+  pub order_printed : {m : _} → Lookup → List IntKind → Row_of-Expr m → List Visit
   order_printed g ks end_of-Expr = []
   order_printed g [] (more_of-Expr p n rest) = parts g n ++ (Node false p n ∷ order_printed g [] rest)
   order_printed g (k ∷ ks) (more_of-Expr p n rest) = parts g n ++ (Node false p n ∷ Shown k p n ∷ order_printed g ks rest)
 
-  pub order1 : Site → Row_of-Expr 1 → List Visit
+  -- of a row's only expression
+  pub order1 : Lookup → Row_of-Expr 1 → List Visit
   order1 g (more_of-Expr p n rest) = parts g n ++ (Node false p n ∷ [])
 
 -- all visits of an expression
-abbrev pub order : Site → Bool → Spot → ExprNode → List Visit
+abbrev pub order : Lookup → Bool → Spot → ExprNode → List Visit
 order g alone p n = parts g n ++ (Node alone p n ∷ [])
 
 -- a visit that breaks no rule
-abbrev pub Fine : Site → Visit → Type 0
+abbrev pub Fine : Lookup → Visit → Type 0
 Fine g (Node alone p n) = (f : Found) × Typing g alone p n f
 Fine g (Argument ty p n) = (f : Found) × (x : TExpr) × Typing g false p n f × (convert ty (value_of f) ≡ Ok x)
 Fine g (Written w) = (ty : CType) × (type_name g w ≡ Ok ty)
@@ -120,14 +134,16 @@ Fine g (Counted r) = (f : Found) × (a : Given) × Typing1 g r f × (counted (va
 Fine g (Shown k p n) = (f : Found) × (a : Printed) × Typing g false p n f × (printed_value k (value_of f) ≡ Ok a)
 
 -- the `ocPrivate` of a feed whose argument is typed, and which breaks a rule itself
-abbrev pub PrivateBreaks : Site → Spot → ExprNode → Refusal → Type 0
+abbrev pub PrivateBreaks : Lookup → Spot → ExprNode → Refusal → Type 0
 PrivateBreaks g p (Call' y _ es) x = (a : Given) × GivenTyping g (want.Index ∷ []) es a × (private_word p a ≡ Err x)
 PrivateBreaks g p _ x = breaks {A = TExpr} p T9 ≡ Err x
 
 -- a print whose arguments are typed, and which breaks a rule itself
-abbrev pub PrintBreaks : {m : _} → Site → Bool → Spot → Row_of-Expr m → Refusal → Type 0
+abbrev pub PrintBreaks : {m : _} → Lookup → Bool → Spot → Row_of-Expr m → Refusal → Type 0
 PrintBreaks g alone p end_of-Expr x = print_called alone p false None (record { args = []; fit = true }) ≡ Err x
-PrintBreaks g alone p (more_of-Expr q n rest) x = (a : Printed) × HeadTyping (text_of n) (λ u. Typing g false q n u) × PrintedTyping g (asked (format_of (text_of n)).pieces) rest a × (print_called alone p true (text_of n) a ≡ Err x)
+PrintBreaks g alone p (more_of-Expr q n rest) x =
+    (a : Printed) × HeadTyping (text_of n) (λ u. Typing g false q n u) × PrintedTyping g (asked (format_of (text_of n)).pieces) rest a
+    × (print_called alone p true (text_of n) a ≡ Err x)
 
 -- a call whose arguments are typed, and which breaks a rule itself
 abbrev pub CallBreaks : Bool → Spot → Called → (List TExpr → Type 0) → (Given → Type 0) → Type 0 → Refusal → Type 0
@@ -138,7 +154,7 @@ CallBreaks alone p (Own c) T G B x = (a : Given) × G a × (own_called alone p c
 CallBreaks alone p Print T G B x = B
 
 -- a node whose parts are typed, and which breaks a rule itself
-abbrev pub NodeBreaks : Site → Bool → Spot → ExprNode → Refusal → Type 0
+abbrev pub NodeBreaks : Lookup → Bool → Spot → ExprNode → Refusal → Type 0
 NodeBreaks g alone p (Number l) x = number p l ≡ Err x
 NodeBreaks g alone p NullPointer x = is p (Pointer false Nothing) t.NullPointer ≡ Err x
 NodeBreaks g alone p (Named y) x = variable p (find g.seen y) ≡ Err x
@@ -146,18 +162,24 @@ NodeBreaks g alone p (Text y) x = breaks {A = Found} p T8 ≡ Err x
 NodeBreaks g alone p (SizeOf w) x = misplaced_size g p w ≡ Err x
 NodeBreaks g alone p (Unary' op _ e) x = (u : Found) × Typing1 g e u × (unary p op u ≡ Err x)
 NodeBreaks g alone p (Bump' up before _ e) x = (u : Found) × Typing1 g e u × (bump p up before u ≡ Err x)
-NodeBreaks g alone p (Binary' op _ l _ r) x = (u v : Found) × Typing1 g l u × Typing1 g r v × (operate p op (value_of u) (value_of v) ≡ Err x)
-NodeBreaks g alone p (Logic' all _ l _ r) x = (u v : Found) × Typing1 g l u × Typing1 g r v × (logic p all (value_of u) (value_of v) ≡ Err x)
-NodeBreaks g alone p (Choose' _ c _ y _ n) x = (u v w : Found) × Typing1 g c u × Typing1 g y v × Typing1 g n w × (choice p (value_of u) (value_of v) (value_of w) ≡ Err x)
+NodeBreaks g alone p (Binary' op _ l _ r) x =
+    (u v : Found) × Typing1 g l u × Typing1 g r v × (operate p op (value_of u) (value_of v) ≡ Err x)
+NodeBreaks g alone p (Logic' all _ l _ r) x =
+    (u v : Found) × Typing1 g l u × Typing1 g r v × (logic p all (value_of u) (value_of v) ≡ Err x)
+NodeBreaks g alone p (Choose' _ c _ y _ n) x =
+    (u v w : Found) × Typing1 g c u × Typing1 g y v × Typing1 g n w × (choice p (value_of u) (value_of v) (value_of w) ≡ Err x)
 NodeBreaks g alone p (Assign' op _ l _ r) x = (u v : Found) × Typing1 g l u × Typing1 g r v × (assign p op u (value_of v) ≡ Err x)
 NodeBreaks g alone p (Index' _ e _ a) x = (u v : Found) × Typing1 g e u × Typing1 g a v × (index p (value_of u) (value_of v) ≡ Err x)
 NodeBreaks g alone p (Field' _ e y) x = (u : Found) × Typing1 g e u × (field g p y u ≡ Err x)
 NodeBreaks g alone p (Arrow' _ e y) x = (u : Found) × Typing1 g e u × (arrow g p y (value_of u) ≡ Err x)
-NodeBreaks g alone p (Cast' w _ e) x = (ty : CType) × (u : Found) × (type_name g w ≡ Ok ty) × Typing1 g e u × (cast p ty (value_of u) ≡ Err x)
-NodeBreaks g alone p (Call' y _ es) x = CallBreaks alone p (called g y) (λ vs. TypingAll g (params_of (called g y)) es vs) (λ a. GivenTyping g (wants_of (called g y)) es a) (PrintBreaks g alone p es x) x
+NodeBreaks g alone p (Cast' w _ e) x =
+    (ty : CType) × (u : Found) × (type_name g w ≡ Ok ty) × Typing1 g e u × (cast p ty (value_of u) ≡ Err x)
+NodeBreaks g alone p (Call' y _ es) x =
+    CallBreaks alone p (called g y) (λ vs. TypingAll g (params_of (called g y)) es vs)
+    (λ a. GivenTyping g (wants_of (called g y)) es a) (PrintBreaks g alone p es x) x
 
 -- a visit that breaks this rule
-abbrev pub Breaks : Site → Visit → Refusal → Type 0
+abbrev pub Breaks : Lookup → Visit → Refusal → Type 0
 Breaks g (Node alone p n) x = NodeBreaks g alone p n x
 Breaks g (Argument ty p n) x = (f : Found) × Typing g false p n f × (convert ty (value_of f) ≡ Err x)
 Breaks g (Written w) x = type_name g w ≡ Err x
@@ -167,11 +189,12 @@ Breaks g (SizeType w) x = sized g w ≡ Err x
 Breaks g (Counted r) x = (f : Found) × Typing1 g r f × (counted (value_of f) ≡ Err x)
 Breaks g (Shown k p n) x = (f : Found) × Typing g false p n f × (printed_value k (value_of f) ≡ Err x)
 
-abbrev pub AllFine : Site → List Visit → Type 0
+-- visits of which none breaks a rule
+abbrev pub AllFine : Lookup → List Visit → Type 0
 AllFine g [] = Unit {0}
 AllFine g (v ∷ vs) = Fine g v × AllFine g vs
 
 -- the first visit that breaks a rule, while all before it are fine, breaks this one
-abbrev pub FirstFault : Site → List Visit → Refusal → Type 0
+abbrev pub FirstFault : Lookup → List Visit → Refusal → Type 0
 FirstFault g [] x = ⊥
 FirstFault g (v ∷ vs) x = Breaks g v x ⊎ (Fine g v × FirstFault g vs x)

@@ -37,10 +37,11 @@ use Rattle.type_rules.specs.declared.judging.Want.{Want}
 use Rattle.type_rules.specs.declared.judging.Want.TheVariants as want
 use Rattle.oc_cells.specs.Types.{same, is_integer, is_hidden, kind_of, target, is_pointer}
 use Rattle.oc_values.specs.Kinds.{promoted, is_shift, is_minus}
+pub use Rattle.oc_typing.specs.Rules.{same_name}
 use Rattle.type_rules.specs.Judging.{Judged, next, breaks, needs, demand, public_integer, is_nothing, leads, is_array, element, common, is_equality, is_unlike, is_comparison, converts, both_integers, takes, takes_update}
 
 -- what the rules look names up in
-pub record Site : Type 0 where
+pub record Lookup : Type 0 where
   -- the names of the program's structs, and which of them hold public data
   pub names : List (List ℕ)
   pub public : List Bool
@@ -53,21 +54,16 @@ pub record Site : Type 0 where
   -- the visible variables, the last declared last
   pub seen : List Seen
 
--- whether two names have the same bytes
-abbrev pub same_name : List ℕ → List ℕ → Bool
-same_name [] [] = true
-same_name [] (y ∷ ys) = false
-same_name (x ∷ xs) [] = false
-same_name (x ∷ xs) (y ∷ ys) = nat_eq x y && same_name xs ys
-
 -- the last declared variable of a name
 abbrev pub or_else : Option Seen → Option Seen → Option Seen
 or_else (Some a) b = Some a
 or_else None b = b
 
+-- a variable, where it has this name
 abbrev pub seen_here : Seen → List ℕ → Option Seen
 seen_here s x = if same_name s.name x then Some s else None
 
+-- the variable that a name means: the one that was declared last
 abbrev pub find : List Seen → List ℕ → Option Seen
 find [] x = None
 find (s ∷ ss) x = or_else (find ss x) (seen_here s x)
@@ -75,8 +71,11 @@ find (s ∷ ss) x = or_else (find ss x) (seen_here s x)
 -- the value that is found, or that a place holds
 abbrev pub value_of : Found → TExpr
 value_of (Value e) = e
-value_of (Place q) = if is_array q.ty then record { spot = q.spot; ty = Pointer false (element q.ty); node = t.Decay q } else record { spot = q.spot; ty = q.ty; node = t.Read q }
+value_of (Place q) =
+    if is_array q.ty then record { spot = q.spot; ty = Pointer false (element q.ty); node = t.Decay q }
+    else record { spot = q.spot; ty = q.ty; node = t.Read q }
 
+-- the value that an expression has
 abbrev pub valued : Judged Found → Judged TExpr
 valued m = next m (λ f. Ok (value_of f))
 
@@ -90,9 +89,11 @@ abbrev pub placed : Spot → Found → Judged TPlace
 placed p (Place q) = Ok q
 placed p (Value e) = breaks p T5
 
+-- a value of this type
 abbrev pub is : Spot → CType → TExprNode → Judged Found
 is p ty n = Ok (Value (record { spot = p; ty = ty; node = n }))
 
+-- a place of this type
 abbrev pub place_is : Spot → CType → TPlaceNode → Judged Found
 place_is p ty n = Ok (Place (record { spot = p; ty = ty; node = n }))
 
@@ -104,9 +105,11 @@ converted ty e = if same true e.ty ty then e else record { spot = e.spot; ty = t
 abbrev pub convert : CType → TExpr → Judged TExpr
 convert ty e = next (demand e.spot converts e.ty ty) (λ _. Ok (converted ty e))
 
+-- a literal is a public integer of its kind
 abbrev pub number : Spot → Literal → Judged Found
 number p l = is p (Int l.kind false) (Number (pos l.value))
 
+-- a name is the place of its variable
 abbrev pub variable : Spot → Option Seen → Judged Found
 variable p None = breaks p T1
 variable p (Some s) = place_is p s.ty (Slot s.slot)
@@ -116,22 +119,27 @@ abbrev pub truth : Bool → CType
 truth true = Int KBool true
 truth false = Int I32 false
 
+-- `-`, `+` and `~` take an integer and promote it
 abbrev pub negate : Spot → OneOp → TExpr → Judged Found
 negate p op e =
     next (needs p T3 (is_integer e.ty)) (λ _.
     is p (Int (promoted (kind_of e.ty)) (is_hidden e.ty)) (t.Unary op (converted (Int (promoted (kind_of e.ty)) (is_hidden e.ty)) e)))
 
+-- `!` takes an integer, converted to Bool
 abbrev pub deny : Spot → TExpr → Judged Found
 deny p e =
     next (needs p T3 (is_integer e.ty)) (λ _.
     is p (truth (is_hidden e.ty)) (t.Unary one.Not (converted (Int KBool (is_hidden e.ty)) e)))
 
+-- `*` takes a pointer to something, and gives the place where it leads
 abbrev pub follow : Spot → TExpr → Judged Found
 follow p e = next (needs p T3 (leads e.ty)) (λ _. place_is p (target e.ty) (place.Deref e))
 
+-- `&` takes a place, and gives a pointer to it
 abbrev pub refer : Spot → Found → Judged Found
 refer p f = next (placed p f) (λ q. is p (Pointer false q.ty) (t.AddressOf q))
 
+-- an operator with one operand
 abbrev pub unary : Spot → UnaryOp → Found → Judged Found
 unary p Neg f = negate p one.Neg (value_of f)
 unary p Plus f = negate p one.Plus (value_of f)
@@ -140,6 +148,7 @@ unary p Not f = deny p (value_of f)
 unary p Deref f = follow p (value_of f)
 unary p Address f = refer p f
 
+-- the operator of `++` and of `--`
 abbrev pub sum_op : Bool → BinaryOp
 sum_op true = Add
 sum_op false = Sub
@@ -156,8 +165,10 @@ abbrev pub bump : Spot → Bool → Bool → Found → Judged Found
 bump p up before f =
     next (needs p T3 (is_integer (type_of f) || leads (type_of f))) (λ _.
     next (placed p f) (λ q.
-    is p q.ty (t.Update (sum_op up) q (working (sum_op up) q.ty (record { spot = p; ty = Int I32 false; node = Number (pos 1) })) (not before))))
+    is p q.ty (t.Update (sum_op up) q
+    (working (sum_op up) q.ty (record { spot = p; ty = Int I32 false; node = Number (pos 1) })) (not before))))
 
+-- the type of what an operator gives, of the type of its operands
 abbrev pub result_of : BinaryOp → CType → CType
 result_of op ty = if is_comparison op then truth (is_hidden ty) else ty
 
@@ -169,6 +180,7 @@ arithmetic p op l r =
     let right = if is_shift op then Int (promoted (kind_of r.ty)) (is_hidden r.ty) else Int kind hidden in
     is p (result_of op (Int kind hidden)) (t.Binary op (converted (Int kind hidden) l) (converted right r))
 
+-- an operator with two operands that it takes
 abbrev pub operated : Spot → BinaryOp → TExpr → TExpr → Judged Found
 operated p op l r =
     if both_integers l.ty r.ty then arithmetic p op l r
@@ -176,15 +188,18 @@ operated p op l r =
     else if is_pointer l.ty then is p l.ty (t.PointerStep l r (is_minus op) false)
     else is p r.ty (t.PointerStep r l false true)
 
+-- an operator with two operands
 abbrev pub operate : Spot → BinaryOp → TExpr → TExpr → Judged Found
 operate p op l r = next (demand p (takes op) l.ty r.ty) (λ _. operated p op l r)
 
+-- `&&` and `||` take integers, converted to Bool, and are hidden where one of them is
 abbrev pub logic : Spot → Bool → TExpr → TExpr → Judged Found
 logic p all l r =
     let hidden = is_hidden l.ty || is_hidden r.ty in
     next (needs p T3 (both_integers l.ty r.ty)) (λ _.
     is p (truth hidden) (t.Logic all (converted (Int KBool hidden) l) (converted (Int KBool hidden) r)))
 
+-- `?:` takes a public condition and two integers, which get their common type
 abbrev pub choice : Spot → TExpr → TExpr → TExpr → Judged Found
 choice p c y n =
     let ty = Int (common (kind_of y.ty) (kind_of n.ty)) (is_hidden y.ty || is_hidden n.ty) in
@@ -199,16 +214,19 @@ assigned p f v =
     next (convert q.ty v) (λ x.
     is p q.ty (t.Assign q x)))
 
+-- a compound assignment
 abbrev pub updated : Spot → BinaryOp → Found → TExpr → Judged Found
 updated p op f v =
     next (demand p (takes_update op) (type_of f) v.ty) (λ _.
     next (placed p f) (λ q.
     is p q.ty (t.Update op q (working op q.ty v) false)))
 
+-- an assignment, or a compound one
 abbrev pub assign : Spot → Option BinaryOp → Found → TExpr → Judged Found
 assign p None f v = assigned p f v
 assign p (Some op) f v = updated p op f v
 
+-- an element: of a pointer to something and a public integer
 abbrev pub index : Spot → TExpr → TExpr → Judged Found
 index p e a =
     next (needs p T3 (leads e.ty && is_integer a.ty)) (λ _.
@@ -220,26 +238,31 @@ abbrev pub field_of : List FieldType → List ℕ → Option FieldType
 field_of [] x = None
 field_of (f ∷ fs) x = if same_name f.name x then Some f else field_of fs x
 
+-- the fields of a struct that is there
 abbrev pub fields_of : Option StructType → List FieldType
 fields_of None = []
 fields_of (Some s) = s.fields
 
 -- the field of a name in a type
-abbrev pub field_in : Site → CType → List ℕ → Option FieldType
+abbrev pub field_in : Lookup → CType → List ℕ → Option FieldType
 field_in g (Struct n) x = field_of (fields_of (slice_get g.structs n)) x
 field_in g _ x = None
 
+-- a field of a place, where it is there
 abbrev pub field_at : Spot → TPlace → Option FieldType → Judged Found
 field_at p q None = breaks p T6
 field_at p q (Some f) = place_is p f.ty (place.Field q f.offset)
 
-abbrev pub field : Site → Spot → List ℕ → Found → Judged Found
+-- `e.f`, of a place that is a struct
+abbrev pub field : Lookup → Spot → List ℕ → Found → Judged Found
 field g p x (Value e) = breaks p T6
 field g p x (Place q) = field_at p q (field_in g q.ty x)
 
-abbrev pub arrow : Site → Spot → List ℕ → TExpr → Judged Found
+-- `e->f`, of a pointer to a struct
+abbrev pub arrow : Lookup → Spot → List ℕ → TExpr → Judged Found
 arrow g p x e = field_at p (record { spot = p; ty = target e.ty; node = place.Deref e }) (field_in g (target e.ty) x)
 
+-- a cast names an integer type, and its part converts to it
 abbrev pub cast : Spot → CType → TExpr → Judged Found
 cast p ty e =
     next (needs p T3 (is_integer ty)) (λ _.
@@ -258,10 +281,12 @@ own_calls =
     ∷ (codes "ocPublic", call.Public) ∷ (codes "printf", call.Printf) ∷ (codes "calloc", call.Calloc) ∷ (codes "malloc", call.Malloc)
     ∷ (codes "free", call.Free) ∷ []
 
+-- the call of a name among these
 abbrev pub own_call_in : List (List ℕ × OwnCall) → List ℕ → Option OwnCall
 own_call_in [] x = None
 own_call_in (c ∷ cs) x = if same_name c.0 x then Some c.1 else own_call_in cs x
 
+-- the call that the language has under a name
 abbrev pub own_call : List ℕ → Option OwnCall
 own_call x = own_call_in own_calls x
 
@@ -273,23 +298,28 @@ pub data Called : Type 0 where
   Own : OwnCall → Called
   Known : ℕ → Heading → Called
 
+-- the function of a name, counted from n
 abbrev pub function_from : ℕ → List Heading → List ℕ → Called
 function_from n [] x = Unknown
 function_from n (h ∷ hs) x = if same_name h.name x then Known n h else function_from (n + 1) hs x
 
+-- what a call of the language is: a print, or another one
 abbrev pub called_own : OwnCall → Called
 called_own call.Printf = Print
 called_own c = Own c
 
-abbrev pub called_function : Site → List ℕ → Option OwnCall → Called
+-- what a name that is no variable means: a call of the language's own, or a function
+abbrev pub called_function : Lookup → List ℕ → Option OwnCall → Called
 called_function g x (Some c) = called_own c
 called_function g x None = function_from 0 g.bodies x
 
-abbrev pub called_name : Site → List ℕ → Option Seen → Called
+-- what a called name means, where a variable of this name is looked for first
+abbrev pub called_name : Lookup → List ℕ → Option Seen → Called
 called_name g x (Some s) = Variable
 called_name g x None = called_function g x (own_call x)
 
-abbrev pub called : Site → List ℕ → Called
+-- what a called name means
+abbrev pub called : Lookup → List ℕ → Called
 called g x = called_name g x (find g.seen x)
 
 -- whether a called name is that of `ocPrivate`
@@ -297,6 +327,7 @@ abbrev pub is_private_call : Called → Bool
 is_private_call (Own call.Private) = true
 is_private_call _ = false
 
+-- the types of slots
 abbrev pub types_of : List SlotType → List CType
 types_of [] = []
 types_of (s ∷ ss) = s.ty ∷ types_of ss
@@ -327,41 +358,57 @@ pub record Given : Type 0 where
   -- how many there are
   pub count : ℕ
 
+-- what no argument gives
 abbrev pub given_none : Given
 given_none = record { args = []; party = 0; of = Nothing; misplaced = false; count = 0 }
 
+-- a value
 abbrev pub given_value : TExpr → Given
 given_value v = record { args = v ∷ []; party = 0; of = Nothing; misplaced = false; count = 1 }
 
+-- the type of the cells, from either argument
 abbrev pub either_type : CType → CType → CType
 either_type a b = if is_nothing a then b else a
 
+-- what two groups of arguments give together
 abbrev pub joined : Given → Given → Given
-joined a b = record { args = a.args ++ b.args; party = a.party + b.party; of = either_type a.of b.of; misplaced = a.misplaced || b.misplaced; count = a.count + b.count }
+joined a b =
+    record {
+      args = a.args ++ b.args;
+      party = a.party + b.party;
+      of = either_type a.of b.of;
+      misplaced = a.misplaced || b.misplaced;
+      count = a.count + b.count;
+    }
 
 -- the value of a number
 abbrev pub literal : TExprNode → Option ℤ
 literal (Number z) = Some z
 literal _ = None
 
+-- a number that is not negative
 abbrev pub natural : Option ℤ → Option ℕ
 natural (Some (pos n)) = Some n
 natural (Some (negsuc n)) = None
 natural None = None
 
+-- the party of this number, or 0
 abbrev pub party_of : Option ℕ → ℕ
 party_of (Some n) = if nat_eq n 1 || nat_eq n 2 then n else 0
 party_of None = 0
 
+-- whether this is the number 0
 abbrev pub is_number_zero : Option ℕ → Bool
 is_number_zero (Some n) = nat_eq n 0
 is_number_zero None = false
 
+-- a party, which is the number 1 or 2
 abbrev pub given_party : TExpr → Judged Given
 given_party v =
     next (needs v.spot T9 (nat_lt 0 (party_of (natural (literal v.node))))) (λ _.
     Ok (record { args = []; party = party_of (natural (literal v.node)); of = Nothing; misplaced = false; count = 1 }))
 
+-- the type of cells
 abbrev pub given_size : CType → Given
 given_size ty = record { args = []; party = 0; of = ty; misplaced = false; count = 1 }
 
@@ -369,6 +416,7 @@ given_size ty = record { args = []; party = 0; of = ty; misplaced = false; count
 abbrev pub given_none_but_one : Given
 given_none_but_one = record { args = []; party = 0; of = Nothing; misplaced = false; count = 1 }
 
+-- an argument with which the call breaks a rule on its form
 abbrev pub given_wrong : Given
 given_wrong = record { args = []; party = 0; of = Nothing; misplaced = true; count = 1 }
 
@@ -405,10 +453,12 @@ has_value call.Printf = false
 has_value call.Free = false
 has_value _ = true
 
+-- whether a call is an `ocPrivate`
 abbrev pub is_private : OwnCall → Bool
 is_private call.Private = true
 is_private _ = false
 
+-- the kind of a list's first expression
 abbrev pub first_kind : List TExpr → IntKind
 first_kind [] = I32
 first_kind (v ∷ vs) = kind_of v.ty
@@ -418,6 +468,7 @@ abbrev pub first_type_of : List TExpr → CType
 first_type_of [] = Int I64 false
 first_type_of (v ∷ vs) = v.ty
 
+-- the type of a call of the language's own
 abbrev pub own_type : OwnCall → Given → CType
 own_type call.Private a = first_type_of a.args
 own_type (call.Feed k) a = Int k true
@@ -431,6 +482,7 @@ own_type call.Result a = Nothing
 own_type call.Printf a = Nothing
 own_type call.Free a = Nothing
 
+-- the node of a call of the language's own
 abbrev pub own_node : OwnCall → Given → Builtin
 own_node call.Private a = own.Private
 own_node (call.Feed k) a = own.Feed k a.party
@@ -454,8 +506,10 @@ own_called alone p c a =
 
 -- the `ocPrivate` of a feed, whose node has the type of its argument
 abbrev pub private_word : Spot → Given → Judged TExpr
-private_word p a = next (needs p T7 (nat_eq a.count 1)) (λ _. Ok (record { spot = p; ty = first_type_of a.args; node = t.Builtin own.Private a.args }))
+private_word p a =
+    next (needs p T7 (nat_eq a.count 1)) (λ _. Ok (record { spot = p; ty = first_type_of a.args; node = t.Builtin own.Private a.args }))
 
+-- a call of a function; one without a value stands alone
 abbrev pub function_called : Bool → Spot → ℕ → Heading → List TExpr → Judged Found
 function_called alone p n h vs =
     next (needs p T3 (alone || not (is_nothing h.result))) (λ _.
@@ -474,6 +528,7 @@ pub data Part : Type 0 where
   Long : Part
   LongLong : Part
 
+-- a piece before these
 abbrev pub with_piece : PrintPiece → Format → Format
 with_piece x f = record { pieces = x ∷ f.pieces; good = f.good }
 
@@ -484,9 +539,11 @@ byte_before b (piece.Text bs ∷ ps) = piece.Text (b ∷ bs) ∷ ps
 byte_before b (piece.Decimal k ∷ ps) = piece.Text (b ∷ []) ∷ piece.Decimal k ∷ ps
 byte_before b (piece.Byte ∷ ps) = piece.Text (b ∷ []) ∷ piece.Byte ∷ ps
 
+-- a byte of text before these pieces
 abbrev pub with_byte : ℕ → Format → Format
 with_byte b f = record { pieces = byte_before b f.pieces; good = f.good }
 
+-- no piece, and whether the format is one to its end
 abbrev pub ended : Bool → Format
 ended good = record { pieces = []; good = good }
 
@@ -521,6 +578,7 @@ asked (piece.Text bs ∷ ps) = asked ps
 asked (piece.Decimal k ∷ ps) = k ∷ asked ps
 asked (piece.Byte ∷ ps) = I32 ∷ asked ps
 
+-- the format that a text is, if there is one
 abbrev pub format_of : Option (List ℕ) → Format
 format_of None = ended true
 format_of (Some text) = format Outside text
@@ -530,18 +588,22 @@ pub record Printed : Type 0 where
   pub args : List TExpr
   pub fit : Bool
 
+-- a value that is printed as this kind, whose promoted width it has
 abbrev pub printed_value : IntKind → TExpr → Judged Printed
 printed_value k v =
     next (convert (Int k false) v) (λ x.
     Ok (record { args = x ∷ []; fit = nat_eq (width (promoted (kind_of v.ty))) (width k) }))
 
+-- the values of two parts of a print
 abbrev pub printed_both : Printed → Printed → Printed
 printed_both a b = record { args = a.args ++ b.args; fit = a.fit && b.fit }
 
+-- how many bytes a text has, if there is one
 abbrev pub text_length : Option (List ℕ) → ℕ
 text_length None = 0
 text_length (Some text) = length text
 
+-- whether there is a text
 abbrev pub is_there : Option (List ℕ) → Bool
 is_there None = false
 is_there (Some text) = true
@@ -552,5 +614,6 @@ print_called alone p any text a =
     let f = format_of text in
     next (needs p T3 alone) (λ _.
     next (needs p T7 any) (λ _.
-    next (needs p T8 (is_there text && f.good && a.fit && nat_eq (length a.args) (length (asked f.pieces)) && nat_le (length a.args) 64 && nat_le (text_length text) 4000)) (λ _.
+    next (needs p T8 (is_there text && f.good && a.fit && nat_eq (length a.args) (length (asked f.pieces))
+    && nat_le (length a.args) 64 && nat_le (text_length text) 4000)) (λ _.
     is p Nothing (t.Builtin (own.Print f.pieces) a.args))))
