@@ -25,7 +25,9 @@ use Rattle.oc_walk.specs.declared.run.Source.{Source}
 use Rattle.oc_walk.specs.declared.run.Source.TheVariants.{Word, Public}
 use Rattle.oc_walk.specs.Domain.{Domain}
 use Rattle.oc_walk.specs.Walking.{Res, Go, Stop, Halt, Odd, after, bind, pure, odd, choose, still, stilled, own, answered, loads, keeps, stores, makes, takes_answer, answer, pays, transfers, spent, step, enter, block_of, live_limit, Known}
-use Rattle.oc_walk.specs.Actions.{count_of, cost, signed_by, Goal, Only, V, M, S, valued, reads, fits_leaf, cell_of, puts, picks, writes_hidden, writes, gets, fetches, sets, follows, addressed, moves, same_places, tests, condition, hidden_of, publicly_one, hiddenly_one, unaries, divided, publicly, hiddenly, operates, lifted, turns, checks, starts_copy, copies_cell, copied, nought, opens, allocates, frees, counted, word, feeds, reveals, gives, known_word, public_word, prints, typed_slot, variable, slot}
+use Rattle.oc_walk.specs.Cells.{signed_by, Goal, Only, V, M, S, valued, reads, fits_leaf, cell_of, puts, picks, writes_hidden, writes, gets, fetches, sets, follows, addressed, moves, same_places, checks, starts_copy, copies_cell, copied, nought, opens, allocates, frees, typed_slot, variable, slot}
+use Rattle.oc_walk.specs.Operations.{tests, condition, hidden_of, publicly_one, hiddenly_one, unaries, divided, publicly, hiddenly, operates, lifted, turns}
+use Rattle.oc_walk.specs.Exchange.{count_of, cost, counted, word, feeds, reveals, gives, known_word, public_word, prints}
 use Rattle.growing_runs.specs.Laws.{end_of}
 
 module _ (D : Domain) (R : D.Own → D.Own → Type 0) where

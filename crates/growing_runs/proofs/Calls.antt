@@ -16,7 +16,7 @@ use Rattle.oc_walk.specs.declared.run.ClearSetup.{ClearSetup}
 use Rattle.oc_walk.specs.declared.run.ShownItem.{ShownItem}
 use Rattle.oc_walk.specs.Domain.{Domain}
 use Rattle.oc_walk.specs.Walking.{State, Res, Go, Stop, finish, Known, Run, Site}
-use Rattle.oc_walk.specs.Actions.{V, S}
+use Rattle.oc_walk.specs.Cells.{V, S}
 use Rattle.oc_walk.specs.Expressions.{Under}
 use Rattle.oc_walk.specs.Statements.{F}
 use Rattle.oc_walk.specs.Walk.{run_of, nowhere, returned, called, params, invokes, found, Skips, calls, start}

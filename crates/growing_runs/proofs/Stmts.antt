@@ -16,7 +16,7 @@ use Rattle.oc_walk.specs.declared.run.Flow.TheVariants.{Next, Break as Broke, Co
 use Rattle.oc_walk.specs.declared.run.Value.TheVariants.{Hidden}
 use Rattle.oc_walk.specs.Domain.{Domain, Parts, AllOf, FirstOf, SecondOf}
 use Rattle.oc_walk.specs.Walking.{Res, Go, Stop, still, own, close, leave, scoped, step, Site, deeper}
-use Rattle.oc_walk.specs.Actions.{S}
+use Rattle.oc_walk.specs.Cells.{S}
 use Rattle.oc_walk.specs.Expressions.{Under, under}
 use Rattle.oc_walk.specs.Statements.{started, declares, declares_all, proceed, ended, turn, again, loop, header, tested_or, advances, gives_back, parted, both, node, part, stmts, other, stepped, listed}
 use Rattle.growing_runs.specs.Laws.{end_of}

@@ -50,7 +50,9 @@ use Rattle.oc_walk.specs.declared.run.Outcome.TheVariants.{Trap, StepsSpent, Dea
 use Rattle.oc_walk.specs.declared.run.Named.{Named}
 use Rattle.oc_walk.specs.Domain.{Domain, Parts, AllOf}
 use Rattle.oc_walk.specs.Walking.{Mem, State, Halt, Ended, Odd, Res, Go, Stop, after, bind, pure, odd, choose, stilled, still, own, answered, keeps, loads, stores, makes, answer, pays, transfers, spent, step, block_of, enter, shut, leave, scoped, ahead, Known, Run, Site, deeper, lighter}
-use Rattle.oc_walk.specs.Actions.{Goal, Only, gets, fetches, sets, count_of, cost, is_of_kind, formatted, onto, signed_by, V, M, valued, reads, fits_leaf, cell_of, puts, picks, writes_hidden, writes, follows, addressed, moves, same_places, tests, condition, hidden_of, publicly_one, hiddenly_one, unaries, divided, publicly, hiddenly, operates, lifted, turns, checks, starts_copy, copied, nought, opens, allocates, frees, counted, word, feeds, reveals, gives, known_word, public_word, prints, typed_slot, variable, slot}
+use Rattle.oc_walk.specs.Cells.{Goal, Only, gets, fetches, sets, is_of_kind, signed_by, V, M, valued, reads, fits_leaf, cell_of, puts, picks, writes_hidden, writes, follows, addressed, moves, same_places, checks, starts_copy, copied, nought, opens, allocates, frees, typed_slot, variable, slot}
+use Rattle.oc_walk.specs.Operations.{tests, condition, hidden_of, publicly_one, hiddenly_one, unaries, divided, publicly, hiddenly, operates, lifted, turns}
+use Rattle.oc_walk.specs.Exchange.{count_of, cost, formatted, onto, counted, word, feeds, reveals, gives, known_word, public_word, prints}
 use Rattle.oc_walk.specs.Builtins.{source_of, on_none, on_one, on_two, on_some, performs}
 use Rattle.oc_walk.specs.Expressions.{Under, under, stepping, converted, turned, copies, assigns, initializes, readied, renewed, both_or_one, decided, solely, expr, place, place_one, one, exprs, whole, tested}
 use Rattle.oc_walk.specs.Statements.{F, started, declares, declares_all, proceed, ended, turn, again, loop, header, tested_or, advances, gives_back, parted, both, node, part, stmts, other, listed}

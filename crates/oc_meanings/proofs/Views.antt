@@ -8,7 +8,7 @@ use Rattle.oc_typed.specs.declared.typed.TStmtNode.TheBlock.{hidden-the_row-TStm
 use denote.Hole.Carrier.{hidden}
 use Rattle.oc_walk.specs.declared.run.Flow.TheVariants.{Next}
 use Rattle.oc_walk.specs.Walking.{Site, bind, pure, still}
-use Rattle.oc_walk.specs.Actions.{condition}
+use Rattle.oc_walk.specs.Operations.{condition}
 use Rattle.oc_walk.specs.Expressions.{Under, under, whole}
 use Rattle.oc_walk.specs.Statements.{node, both}
 use Rattle.oc_walk.proofs.Views.{part_of}

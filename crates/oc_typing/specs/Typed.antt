@@ -1,5 +1,5 @@
 -- When a typed tree is well typed: a test of the tree alone.
-use Rattle.std.specs.Prelude.{ℕ, zero, suc, List, [], ◌∷◌, ◌++◌, length, map, take, nat_eq, nat_le, Bool, true, false, ◌&&◌, ◌||◌, not, Option, Some, None, slice_get, codes}
+use Rattle.std.specs.Prelude.{ℕ, zero, suc, ℤ, pos, negsuc, List, [], ◌∷◌, ◌++◌, length, map, take, nat_eq, nat_le, Bool, true, false, ◌&&◌, ◌||◌, not, Option, Some, None, slice_get, codes}
 use Rattle.oc_values.specs.declared.integers.IntKind.{IntKind}
 use Rattle.oc_values.specs.declared.integers.IntKind.TheVariants.{Bool as KBool, I32}
 use Rattle.oc_cells.specs.declared.types.CType.{CType, Int, Pointer', Array', Nothing, Row_of-CType, more_of-CType, end_of-CType}
@@ -56,6 +56,21 @@ is_fed k u (Builtin' Private _ es) = is_public u
 is_fed k u (Convert' _ e) = same true u (Int k true) && is_public (type_of e)
 is_fed k u _ = false
 
+-- whether an integer is 1
+abbrev pub is_one : ℤ → Bool
+is_one (pos n) = nat_eq n 1
+is_one (negsuc n) = false
+
+-- whether a row's only expression is the number 1
+abbrev pub is_number_one : Row_of-TExpr 1 → Bool
+is_number_one (more_of-TExpr q u (Number n) rest) = is_one n
+is_number_one _ = false
+
+-- whether a row's only expression is the number 1, as it stands or converted: what `++` and `--` add and subtract
+abbrev pub is_unit : Row_of-TExpr 1 → Bool
+is_unit (more_of-TExpr q u (Convert' _ e) rest) = is_number_one e
+is_unit e = is_number_one e
+
 -- whether a row has no further expression
 abbrev pub ends : {m : _} → Row_of-TExpr m → Bool
 ends end_of-TExpr = true
@@ -86,7 +101,8 @@ abbrev pub is_of_node : Context → CType → Bool
 is_of_node g t = is_nothing t || is_null t || is_type g.sizes g.public t
 
 abbrev mutual
-  -- a node of this type, where these slots are visible; an `ocPrivate` stands only as the argument of a feed
+  -- a node of this type, where these slots are visible: an `ocPrivate` stands only as the argument of a feed, and an update
+  -- whose value is the old one is by the number 1
   pub expr : Context → List ℕ → Bool → CType → TExprNode → Bool
   expr g vis fed t (Number n) = number t n
   expr g vis fed t NullPointer = is_null t
@@ -106,6 +122,7 @@ abbrev mutual
       same true t u && same true (type_of e) u && is_held u && is_type g.sizes g.public u && place g vis u c && one g vis e
   expr g vis fed t (Update' op q u c _ e old) =
       same true t u && update op u (type_of e) && is_type g.sizes g.public u && place g vis u c && one g vis e
+      && (not old || is_unit e)
   expr g vis fed t (Convert' _ e) = converts (type_of e) t && one g vis e
   expr g vis fed t (Call' f _ es) = call t (types_of es) (slice_get g.functions f) && exprs g vis false es
   expr g vis fed t (Builtin' which _ es) =

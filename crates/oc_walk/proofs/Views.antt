@@ -23,7 +23,8 @@ use denote.Hole.Carrier.{hidden}
 use Rattle.oc_walk.specs.declared.run.Value.TheVariants.{Pointer, Hidden}
 use Rattle.oc_walk.specs.Domain.{Domain}
 use Rattle.oc_walk.specs.Walking.{Site, deeper, bind, pure, choose, still, scoped}
-use Rattle.oc_walk.specs.Actions.{A, V, Only, gets, fetches, sets, unaries, operates, same_places, tests, turns, follows, moves}
+use Rattle.oc_walk.specs.Cells.{A, V, Only, gets, fetches, sets, same_places, follows, moves}
+use Rattle.oc_walk.specs.Operations.{unaries, operates, tests, turns}
 use mathlib.Core.Former.{this, list_count, children}
 use mathlib.Core.List.{map}
 use Rattle.sqlite_items.specs.formers.items.Items.{the_former}
@@ -35,7 +36,7 @@ use Rattle.oc_walk.specs.Walking.{ahead}
 use Rattle.std.specs.Prelude.{slice_get, if◌then◌else◌, ◌∷◌, []}
 use Rattle.std.proofs.Common.{ap}
 use Rattle.oc_walk.specs.declared.run.Flow.TheVariants.{Next}
-use Rattle.oc_walk.specs.Actions.{opens, puts, typed_slot}
+use Rattle.oc_walk.specs.Cells.{opens, puts, typed_slot}
 use Rattle.oc_walk.specs.Builtins.{source_of, source_at}
 use Rattle.oc_walk.specs.Expressions.{exprs}
 use Rattle.oc_walk.specs.Statements.{stmts, stepped, proceed}

@@ -13,7 +13,8 @@ use Rattle.oc_walk.specs.declared.run.Source.{Source}
 use Rattle.oc_walk.specs.declared.run.Source.TheVariants.{Word, Public}
 use Rattle.oc_walk.specs.Domain.{Domain}
 use Rattle.oc_walk.specs.Walking.{bind, pure, odd, still, Site}
-use Rattle.oc_walk.specs.Actions.{count_of, formatted, V, A, puts, addressed, allocates, frees, feeds, reveals, gives, public_word, prints}
+use Rattle.oc_walk.specs.Cells.{V, A, puts, addressed, allocates, frees}
+use Rattle.oc_walk.specs.Exchange.{count_of, formatted, feeds, reveals, gives, public_word, prints}
 
 -- what an argument is to a feed
 abbrev pub source_at : Spot → TExprNode → Source

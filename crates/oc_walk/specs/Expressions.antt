@@ -23,7 +23,8 @@ use Rattle.oc_typed.specs.Static.{spot_of, type_of, working_kind}
 use Rattle.oc_walk.specs.declared.run.Value.TheVariants.{Int, Pointer, Hidden}
 use Rattle.oc_walk.specs.Domain.{Domain}
 use Rattle.oc_walk.specs.Walking.{bind, pure, choose, still, ahead, Site, deeper, lighter}
-use Rattle.oc_walk.specs.Actions.{Goal, Only, gets, fetches, sets, V, A, puts, writes, follows, moves, same_places, tests, unaries, operates, turns, starts_copy, copied, slot}
+use Rattle.oc_walk.specs.Cells.{Goal, Only, gets, fetches, sets, V, A, puts, writes, follows, moves, same_places, starts_copy, copied, slot}
+use Rattle.oc_walk.specs.Operations.{tests, unaries, operates, turns}
 use Rattle.oc_walk.specs.Builtins.{source_of, performs}
 
 module _ (D : Domain) where

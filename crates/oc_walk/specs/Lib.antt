@@ -1,6 +1,8 @@
 pub mod Walking
 pub mod Domain
-pub mod Actions
+pub mod Cells
+pub mod Operations
+pub mod Exchange
 pub mod Builtins
 pub mod Expressions
 pub mod Statements

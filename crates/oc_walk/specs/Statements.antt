@@ -16,7 +16,8 @@ use Rattle.oc_walk.specs.declared.run.Flow.TheVariants.{Next, Break as Broke, Co
 use Rattle.oc_walk.specs.declared.run.Outcome.TheVariants.{StepsSpent}
 use Rattle.oc_walk.specs.Domain.{Domain, Parts, AllOf, FirstOf, SecondOf}
 use Rattle.oc_walk.specs.Walking.{Stop, Ended, bind, pure, choose, still, own, step, scoped, Site, deeper}
-use Rattle.oc_walk.specs.Actions.{A, puts, condition, opens, typed_slot}
+use Rattle.oc_walk.specs.Cells.{A, puts, opens, typed_slot}
+use Rattle.oc_walk.specs.Operations.{condition}
 use Rattle.oc_walk.specs.Expressions.{Under, under, initializes, whole, tested}
 
 module _ (D : Domain) where

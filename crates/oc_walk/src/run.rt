@@ -7,7 +7,9 @@ use oc_values::{IntKind, Items, Name};
 /// How a run ends.
 #[derive(Clone, Copy, Debug, PartialEq, Eq)]
 pub enum Outcome {
+    /// The program's end was reached.
     Done,
+    /// This trap was met at this spot.
     Trap { kind: TrapKind, spot: Spot },
     /// A step is needed, and none of the budget is left.
     StepsSpent,
@@ -33,7 +35,9 @@ pub enum Value<H> {
 pub enum Flow<H> {
     /// With the statement after it.
     Next,
+    /// Behind the loop.
     Break,
+    /// With the loop's next turn.
     Continue,
     /// The call ends with this value.
     Back(Value<H>),

@@ -14,7 +14,7 @@ use Rattle.oc_typed.specs.declared.typed.TypedFunction.{TypedFunction}
 use Rattle.oc_typed.specs.Static.{type_of, types_of}
 use Rattle.oc_typed.specs.Visible.{is_among}
 use Rattle.oc_typing.specs.Rules.{is_type, is_public, is_common, is_held, field, step, builtin}
-use Rattle.oc_typing.specs.Typed.{Context, context, param_types, has_type, call, is_feed, is_private, fed_by, is_of_node, expr, place, place_one, one, exprs}
+use Rattle.oc_typing.specs.Typed.{Context, context, param_types, has_type, call, is_feed, is_private, fed_by, is_of_node, expr, place, place_one, one, exprs, is_unit}
 use Rattle.typed_runs.specs.Shapes.{Heading, Env, Held, ExprOk, PlaceOk, PlaceOneOk, OneOk, AllOk}
 use Rattle.typed_runs.specs.Shapes as shapes
 use Rattle.sound_runs.specs.Laws.{heading, headings}
@@ -65,7 +65,7 @@ module _ (structs : List StructType) (fs : List TypedFunction) (f : TypedFunctio
         let z = all6 (same_is t u) (same_is (type_of e) u) (kept (is_held u)) (kept (is_ok u)) (place_right c vis u) (one_right e vis) h in
         (z.0, z.1, held u z.2 z.3, z.4, z.5)
     expr_right (Update' op q u c _ e old) vis fed t h =
-        let z = all5 (same_is t u) (update_right op u (type_of e)) (kept (is_ok u)) (place_right c vis u) (one_right e vis) h in
+        let z = all6 (same_is t u) (update_right op u (type_of e)) (kept (is_ok u)) (place_right c vis u) (one_right e vis) (kept (not old || is_unit e)) h in
         (z.0, z.1, z.3, z.4)
     expr_right (Convert' _ e) vis fed t h = all2 (convert_right (type_of e) t) (one_right e vis) h
     expr_right (Call' f _ es) vis fed t h =

@@ -15,7 +15,7 @@ use Rattle.oc_walk.specs.declared.run.Flow.{Flow}
 use Rattle.oc_walk.specs.declared.run.Named.{Named}
 use Rattle.oc_walk.specs.Domain.{Domain}
 use Rattle.oc_walk.specs.Walking.{Res, Go, Stop, Ended, Needs, Odd, bind, still, Run, Site}
-use Rattle.oc_walk.specs.Actions.{S, V, puts, opens}
+use Rattle.oc_walk.specs.Cells.{S, V, puts, opens}
 use Rattle.oc_walk.specs.Expressions.{Under}
 use Rattle.oc_walk.specs.Statements.{listed}
 use Rattle.oc_walk.specs.Walk.{zero_value, value_back, returned, called, params, invokes, found, calls, start, run_of, nowhere}

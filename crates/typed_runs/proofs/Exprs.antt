@@ -23,7 +23,9 @@ use Rattle.oc_walk.specs.declared.run.Source.{Source}
 use Rattle.oc_walk.specs.declared.run.Named.{Named}
 use Rattle.oc_walk.specs.Domain.{Domain}
 use Rattle.oc_walk.specs.Walking.{Res, Go, Stop, Ended, Needs, Odd, bind, pure, choose, still, block_of, Site, deeper}
-use Rattle.oc_walk.specs.Actions.{V, S, Goal, Only, gets, fetches, sets, operates, same_places, tests, turns, unaries, moves, variable, slot, count_of}
+use Rattle.oc_walk.specs.Cells.{V, S, Goal, Only, gets, fetches, sets, same_places, moves, variable, slot}
+use Rattle.oc_walk.specs.Operations.{operates, tests, turns, unaries}
+use Rattle.oc_walk.specs.Exchange.{count_of}
 use Rattle.oc_walk.specs.Builtins.{performs}
 use Rattle.oc_walk.specs.Expressions.{Under, stepping, converted, turned, copies, assigns, readied, renewed, both_or_one, decided, solely, expr, place, place_one, one, exprs}
 use Rattle.typed_runs.specs.Shapes.{Heading, Env, Sized, Held, integer, pointer, struct, UnaryOk, unary_ok, alike_marks, BinaryOk, binary_ok, UpdateOk, steps, computes, ConvertOk, kinds, pointers, StepOk, step_ok, LogicOk, hidden_logic, public_logic, PublicOk, public_ok, NumberOk, BuiltinOk, private_ok, word_ok, fed_ok, reveal_ok, give_ok, count_ok, counts_ok, known_word_ok, print_ok, calloc_ok, malloc_ok, mallocs_ok, free_ok, ExprOk, PlaceOk, PlaceOneOk, OneOk, AllOk}

@@ -19,7 +19,7 @@ use Rattle.oc_walk.specs.declared.run.Outcome.TheVariants.{StepsSpent}
 use Rattle.oc_walk.specs.declared.run.Named.{Named}
 use Rattle.oc_walk.specs.Domain.{Domain, Parts, AllOf, FirstOf, SecondOf}
 use Rattle.oc_walk.specs.Walking.{Res, bind, still, block_of, Site, deeper}
-use Rattle.oc_walk.specs.Actions.{S, V, puts, opens}
+use Rattle.oc_walk.specs.Cells.{S, V, puts, opens}
 use Rattle.oc_walk.specs.Expressions.{Under, under, whole, tested, initializes}
 use Rattle.oc_walk.specs.Statements.{started, declares, declares_all, proceed, ended, turn, again, loop, header, tested_or, advances, gives_back, parted, both, node, part, stmts, other, listed}
 use Rattle.typed_runs.specs.Shapes.{Heading, Sized, Held, integer, pointer, struct}

@@ -31,7 +31,9 @@ use Rattle.oc_typed.specs.declared.typed.PrintPiece.{PrintPiece}
 use Rattle.oc_typed.specs.Static.{one_type, two_type}
 use Rattle.oc_walk.specs.Domain.{Domain}
 use Rattle.oc_walk.specs.Walking.{makes, answer, takes_answer, pays, ahead, Known, Ended, Needs, Odd, Res, Go, Stop, after, bind, pure, odd, choose, stilled, still, own, answered, keeps, loads, stores}
-use Rattle.oc_walk.specs.Actions.{count_of, cost, formatted, onto, checks, starts_copy, copied, nought, allocates, frees, counted, word, feeds, reveals, gives, known_word, public_word, prints, is_of_kind, signed_by, V, M, S, valued, reads, fits_leaf, cell_of, puts, picks, writes, follows, addressed, moves, same_places, tests, condition, hidden_of, unaries, divided, operates, lifted, turns}
+use Rattle.oc_walk.specs.Cells.{checks, starts_copy, copied, nought, allocates, frees, is_of_kind, signed_by, V, M, S, valued, reads, fits_leaf, cell_of, puts, picks, writes, follows, addressed, moves, same_places}
+use Rattle.oc_walk.specs.Operations.{tests, condition, hidden_of, unaries, divided, operates, lifted, turns}
+use Rattle.oc_walk.specs.Exchange.{count_of, cost, formatted, onto, counted, word, feeds, reveals, gives, known_word, public_word, prints}
 use Rattle.typed_runs.specs.Shapes.{Operands, alike_marks, by_public, Formats, no_pieces, a_text, a_number, a_byte}
 use Rattle.oc_values.proofs.Numbers.{truth_fits, convert_fits, operate_fits, one_op_fits}
 
