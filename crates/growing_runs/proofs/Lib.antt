@@ -1,0 +1,4 @@
+pub mod Adding
+pub mod Exprs
+pub mod Stmts
+pub mod Calls

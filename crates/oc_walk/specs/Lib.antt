@@ -1,0 +1,9 @@
+pub mod Walking
+pub mod Domain
+pub mod Cells
+pub mod Operations
+pub mod Exchange
+pub mod Builtins
+pub mod Expressions
+pub mod Statements
+pub mod Walk

@@ -1,0 +1,11 @@
+pub mod Small
+pub mod Conditions
+pub mod Loops
+pub mod Traps
+pub mod DealtSpent
+pub mod InputIndex
+pub mod NullPointer
+pub mod StepsSpent
+pub mod Structs
+pub mod Updates
+pub mod ZeroDivisor

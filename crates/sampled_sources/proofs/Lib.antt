@@ -1,0 +1,5 @@
+pub mod Means
+pub mod Blocks
+pub mod DealtSpent
+pub mod OutOfBlock
+pub mod Structs
