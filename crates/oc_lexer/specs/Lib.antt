@@ -3,6 +3,7 @@ pub mod Kinds
 pub mod Comments
 pub mod Words
 pub mod Numbers
+pub mod NumberParts
 pub mod Literals
 pub mod Places
 pub mod Directives

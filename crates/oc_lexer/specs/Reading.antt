@@ -5,15 +5,18 @@ use Rattle.oc_source.specs.declared.literal.Literal.{Literal}
 use Rattle.oc_lexer.specs.declared.bytes.ByteClass.TheVariants as class
 use Rattle.oc_lexer.specs.declared.kinds.Kind.{Kind}
 use Rattle.oc_lexer.specs.declared.kinds.Kind.TheVariants as k
+use Rattle.oc_lexer.specs.declared.numbers.Suffix.{Suffix}
+use Rattle.oc_lexer.specs.declared.token.LexRule.{LexRule}
+use Rattle.oc_lexer.specs.declared.token.LexRule.TheVariants.{L1, L2, L3, L4, L5}
 use Rattle.oc_lexer.specs.declared.token.Sign.{Sign}
 use Rattle.oc_lexer.specs.declared.token.TokenKind.TheVariants as t
 use Rattle.oc_lexer.specs.declared.pieces.Piece.{Piece as ReadPiece}
 use Rattle.oc_lexer.specs.declared.pieces.Piece.TheVariants as read
-use Rattle.oc_lexer.specs.Bytes.{is_in, is_space, is_name_start, is_name_byte, begins_with, run, after}
+use Rattle.oc_lexer.specs.Bytes.{is_in, is_space, is_name_start, is_name_byte, is_empty, begins_with, run, after}
 use Rattle.oc_lexer.specs.Kinds.{kind_at}
 use Rattle.oc_lexer.specs.Comments.{ends_line}
 use Rattle.oc_lexer.specs.Words.{keyword_of, word_kind, sign_text, signs}
-use Rattle.oc_lexer.specs.Numbers.{literal_of, is_empty}
+use Rattle.oc_lexer.specs.NumberParts.{literal_of, suffix_of}
 use Rattle.oc_lexer.specs.Literals.{escape_value, is_text_byte, is_character_byte}
 use Rattle.oc_lexer.specs.Directives.{headers}
 use Rattle.oc_lexer.specs.Pieces.{Piece, Blank, Comment, Include, Define, Lexeme}
@@ -179,3 +182,22 @@ piece_by k.Sign text = option_map (λ s. (Lexeme (t.Sign s), length (sign_text s
 -- the piece at the front of a text and its length; the flag says if only blanks stand before it on its line
 abbrev pub piece_at : Bool → List ℕ → Option (Piece × ℕ)
 piece_at is_fresh text = piece_by (kind_at is_fresh text) text
+
+-- ---- refusals
+
+-- the rule that a run of bytes breaks which is no literal, by the suffix that was read of it
+abbrev pub number_rule : Option Suffix → LexRule
+number_rule None = L3
+number_rule (Some suffix) = L4
+
+-- the rule that a text breaks which begins so and spells nothing
+abbrev pub rule_of : Kind → List ℕ → LexRule
+rule_of k.Blank text = L1
+rule_of k.Word text = L1
+rule_of k.Character text = L1
+rule_of k.Text text = L1
+rule_of k.Sign text = L1
+rule_of k.LineComment text = L1
+rule_of k.BlockComment text = L2
+rule_of k.Number text = number_rule (suffix_of (run (is_in class.Number) text))
+rule_of k.Directive text = L5

@@ -9,8 +9,8 @@ ghost use Rattle.oc_lexer.specs.Moving.{token_between};
 ghost use Rattle.oc_lexer.specs.Places.{spot_after};
 ghost use Rattle.oc_lexer.specs.Kinds.{kind_at};
 ghost use Rattle.oc_lexer.specs.Known.{filtered, get_at, known_after};
-ghost use Rattle.oc_lexer.specs.Reading.{piece_at, piece_of};
-ghost use Rattle.oc_lexer.specs.Sources.{Refuses, Spells, is_new_by, rule_of};
+ghost use Rattle.oc_lexer.specs.Reading.{piece_at, piece_of, rule_of};
+ghost use Rattle.oc_lexer.specs.Sources.{Refuses, Spells, is_new_by};
 
 use crate::bytes::{ByteClass, split_run};
 use crate::defines::{define, find, replaced};

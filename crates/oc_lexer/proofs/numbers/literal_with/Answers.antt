@@ -1,5 +1,5 @@
 use Rattle.std.proofs.Common.{sym, ap, ◌∙◌}
-use Rattle.oc_lexer.specs.Numbers.{first_holding, literal_of_kind}
+use Rattle.oc_lexer.specs.NumberParts.{first_holding, literal_of_kind}
 use Rattle.oc_lexer.proofs.Parts.{literal_holds, literal_is}
 use Rattle.oc_lexer.proofs.numbers.literal_with.Goals as goal
 
