@@ -11,11 +11,11 @@ use Rattle.oc_lexer.specs.declared.bytes.ByteClass.TheVariants as class
 use Rattle.oc_lexer.specs.Bytes.{is_in, is_space, is_name_start, is_name_byte, is_empty, begins_with, run, after}
 use Rattle.oc_lexer.specs.Comments.{ends_line}
 use Rattle.oc_lexer.specs.Words.{keyword_of}
-use Rattle.oc_lexer.specs.NumberParts.{literal_of, suffix_of}
+use Rattle.oc_lexer.specs.ScannedNumbers.{literal_of, suffix_of}
 use Rattle.oc_lexer.specs.Directives.{headers, Includes, Defines}
-use Rattle.oc_lexer.specs.Reading.{find_header, header_end, header_at, included, include_length, is_free_name, is_definition, define_after, define_at}
+use Rattle.oc_lexer.specs.Scanned.{find_header, header_end, header_at, included, include_length, is_free_name, is_definition, define_after, define_at}
 use Rattle.oc_lexer.proofs.Runs.{run-append-after, run_all, after_longest, run_is, after_is}
-use Rattle.oc_lexer.proofs.Parts.{Cut, define_goes}
+use Rattle.oc_lexer.proofs.Cuts.{Cut, define_goes}
 use Rattle.oc_lexer.proofs.Written.{number_spelled, number_read}
 use Rattle.oc_lexer.proofs.Openings.{starts_true, starts_of, drop_front}
 

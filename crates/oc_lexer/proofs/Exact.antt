@@ -13,11 +13,11 @@ use Rattle.oc_lexer.specs.Bytes.{is_in, is_name_start, is_name_byte, is_digit, b
 use Rattle.oc_lexer.specs.Kinds.{kind_at}
 use Rattle.oc_lexer.specs.Comments.{has_end}
 use Rattle.oc_lexer.specs.Words.{keyword_of, word_kind, sign_text}
-use Rattle.oc_lexer.specs.NumberParts.{literal_of}
+use Rattle.oc_lexer.specs.ScannedNumbers.{literal_of}
 use Rattle.oc_lexer.specs.Literals.{elements_text}
 use Rattle.oc_lexer.specs.Directives.{Includes, Defines}
 use Rattle.oc_lexer.specs.Pieces.{Piece, Comment, Lexeme, IsRun, SpellsCharacter, SpellsText, Spelled, SpellsPiece}
-use Rattle.oc_lexer.specs.Reading.{body_length, comment_length, sign_at, character_at, quoted, include_length, define_at, piece_by, piece_at, directive_of, defined_piece, lexeme_of_length}
+use Rattle.oc_lexer.specs.Scanned.{body_length, comment_length, sign_at, character_at, quoted, include_length, define_at, piece_by, piece_at, directive_of, defined_piece, lexeme_of_length}
 use Rattle.oc_lexer.proofs.Runs.{run-append-after, run_all, after_longest, run_is}
 use Rattle.oc_lexer.proofs.Openings.{told}
 use Rattle.oc_lexer.proofs.Longest.{sign_some, sign_found, sign_spelled}

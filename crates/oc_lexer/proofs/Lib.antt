@@ -1,6 +1,6 @@
 pub mod Runs
 pub mod CommentEnds
-pub mod Parts
+pub mod Cuts
 pub mod Suffixes
 pub mod Written
 pub mod Quotes

@@ -10,7 +10,7 @@ use Rattle.oc_lexer.specs.declared.bytes.ByteClass.TheVariants as class
 use Rattle.oc_lexer.specs.declared.numbers.Suffix.{Suffix}
 use Rattle.oc_lexer.specs.Bytes.{is_in, begins_with}
 use Rattle.oc_lexer.specs.Numbers.{unsigned_marks, long_marks, SpellsSuffix}
-use Rattle.oc_lexer.specs.NumberParts.{suffix, suffixes}
+use Rattle.oc_lexer.specs.ScannedNumbers.{suffix, suffixes}
 
 -- ---- what is spelled is looked up
 

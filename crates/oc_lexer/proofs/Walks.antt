@@ -32,10 +32,10 @@ use Rattle.oc_lexer.specs.Kinds.{kind_at}
 use Rattle.oc_lexer.specs.Places.{is_newline, last_line, spot_after, is_fresh_after}
 use Rattle.oc_lexer.specs.Moving.{place_of, stepped, passed, token_between}
 use Rattle.oc_lexer.specs.Pieces.{Piece, Blank, Comment, Include, Define, Lexeme, Spelled, SpellsPiece}
-use Rattle.oc_lexer.specs.Sources.{Definitions, defined, with_piece, is_new, is_new_by, Laid, laid, AreLaid, definitions, token_by, replaced_by, number_or_name, tokens_of, Spells, IsRule, IsStuck, Stops, Refuses}
+use Rattle.oc_lexer.specs.Sources.{Definitions, defined, with_piece, is_new, is_new_by, Laid, laid, AreLaid, definitions, token_by, replaced_by, number_or_name, tokens_of, Spells, IsRule, IsStuck, BreaksOff, HasNoTokens}
 use Rattle.oc_lexer.specs.Known.{Knows, get_at, known_after, filtered}
-use Rattle.oc_lexer.specs.NumberParts.{literal_of}
-use Rattle.oc_lexer.specs.Reading.{piece_at, piece_by, lexeme_of_length, rule_of, sign_at}
+use Rattle.oc_lexer.specs.ScannedNumbers.{literal_of}
+use Rattle.oc_lexer.specs.Scanned.{piece_at, piece_by, lexeme_of_length, rule_of, sign_at}
 
 -- ---- the piece at the front of a text
 
@@ -329,7 +329,7 @@ module _ {source rest : List ℕ} {place : Place} {known : BTreeMap (Bor (List �
       let same = same_walk [] [] o.pieces w.pieces [] [] o.spelled all_spelled (append-nil (laid o.pieces) ∙ sym o.text ∙ whole ∙ sym (append-nil (laid w.pieces))) (stuck_end (laid o.pieces) (definitions [] o.pieces)) (stuck_end (laid w.pieces) (definitions [] w.pieces)) in
       o.given ∙ ap (tokens_of [] []) same.0 ∙ sym w.given
 
-  pub walked_accepted : (rule : LexRule) (spot : Spot) → Refuses source rule spot → ⊥
+  pub walked_accepted : (rule : LexRule) (spot : Spot) → HasNoTokens source rule spot → ⊥
   walked_accepted rule spot (inl long) = let s = w.size in let l = long.0 in omega arith
   walked_accepted rule spot (inr short) =
       let o = short.1 in
@@ -353,7 +353,7 @@ module _ {source rest : List ℕ} {place : Place} {known : BTreeMap (Bor (List �
   stuck_here : IsStuck (laid w.pieces) (definitions [] w.pieces) rest
   stuck_here = stuck known (definitions [] w.pieces) (laid w.pieces) rest w.knows (ap (λ f. filtered (get_at known) (piece_at f rest)) (sym fresh) ∙ none)
 
-  stopped : Stops source (rule_of (kind_at place.is_fresh rest) rest) place.spot
+  stopped : BreaksOff source (rule_of (kind_at place.is_fresh rest) rest) place.spot
   stopped = record {
     pieces = w.pieces;
     rest = rest;
@@ -365,10 +365,10 @@ module _ {source rest : List ℕ} {place : Place} {known : BTreeMap (Bor (List �
     spot = ap (λ (p : Place). p.spot) w.at;
   }
 
-  pub walked_refused : (rule : LexRule) → rule ≡ rule_of (kind_at place.is_fresh rest) rest → Refuses source rule place.spot
-  walked_refused rule e = inr (w.size, subst (λ r. Stops source r place.spot) (sym e) stopped)
+  pub walked_refused : (rule : LexRule) → rule ≡ rule_of (kind_at place.is_fresh rest) rest → HasNoTokens source rule place.spot
+  walked_refused rule e = inr (w.size, subst (λ r. BreaksOff source r place.spot) (sym e) stopped)
 
-  pub walked_only_refusal : (rule : LexRule) → rule ≡ rule_of (kind_at place.is_fresh rest) rest → (other : LexRule) (at : Spot) → Refuses source other at → (other ≡ rule) × (at ≡ place.spot)
+  pub walked_only_refusal : (rule : LexRule) → rule ≡ rule_of (kind_at place.is_fresh rest) rest → (other : LexRule) (at : Spot) → HasNoTokens source other at → (other ≡ rule) × (at ≡ place.spot)
   walked_only_refusal rule e other at (inl long) = let s = w.size in let l = long.0 in absurd (omega arith)
   walked_only_refusal rule e other at (inr short) =
       let o = short.1 in

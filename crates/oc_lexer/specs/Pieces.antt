@@ -54,10 +54,14 @@ pub record SpellsText (bytes text : List ℕ) : Type 0 where
 abbrev pub Spelled : Kind → Piece → List ℕ → List ℕ → Type 0
 Spelled k.Blank piece text rest = (piece ≡ Blank) × (length text ≡ 1)
 Spelled k.LineComment piece text rest = (piece ≡ Comment) × IsRun (is_in class.Line) text rest
-Spelled k.BlockComment piece text rest = (piece ≡ Comment) × ((body : List ℕ) × (text ≡ 47 ∷ (42 ∷ (body ++ 42 ∷ (47 ∷ [])))) × IsTrue (not (has_end body)))
-Spelled k.Directive piece text rest = ((piece ≡ Include) × Includes text rest) ⊎ ((name : List ℕ) × (literal : Literal) × (piece ≡ Define name literal) × Defines name literal text rest)
+Spelled k.BlockComment piece text rest =
+    (piece ≡ Comment) × ((body : List ℕ) × (text ≡ 47 ∷ (42 ∷ (body ++ 42 ∷ (47 ∷ [])))) × IsTrue (not (has_end body)))
+Spelled k.Directive piece text rest =
+    ((piece ≡ Include) × Includes text rest)
+    ⊎ ((name : List ℕ) × (literal : Literal) × (piece ≡ Define name literal) × Defines name literal text rest)
 Spelled k.Word piece text rest = (piece ≡ Lexeme (word_kind (keyword_of text) text)) × IsRun is_name_byte text rest
-Spelled k.Number piece text rest = (literal : Literal) × (piece ≡ Lexeme (t.Number literal)) × SpellsNumber literal text × IsRun (is_in class.Number) text rest
+Spelled k.Number piece text rest =
+    (literal : Literal) × (piece ≡ Lexeme (t.Number literal)) × SpellsNumber literal text × IsRun (is_in class.Number) text rest
 Spelled k.Character piece text rest = (b : ℕ) × (piece ≡ Lexeme (t.Character b)) × SpellsCharacter b text
 Spelled k.Text piece text rest = (bytes : List ℕ) × (piece ≡ Lexeme (t.Text bytes)) × SpellsText bytes text
 Spelled k.Sign piece text rest = (s : Sign) × (piece ≡ Lexeme (t.Sign s)) × SpellsSign s text rest

@@ -77,7 +77,9 @@ laid (l ∷ ls) = l.text ++ laid ls
 -- the pieces stand one after the other, after this front of the source and these definitions, and before this rest of it
 abbrev pub AreLaid : List ℕ → Definitions → List Laid → List ℕ → Type 0
 AreLaid front ds [] rest = Unit {0}
-AreLaid front ds (l ∷ ls) rest = SpellsPiece (is_fresh_after front) l.piece l.text (laid ls ++ rest) × IsTrue (is_new ds l.piece) × AreLaid (front ++ l.text) (with_piece ds l.piece) ls rest
+AreLaid front ds (l ∷ ls) rest =
+    SpellsPiece (is_fresh_after front) l.piece l.text (laid ls ++ rest) × IsTrue (is_new ds l.piece)
+    × AreLaid (front ++ l.text) (with_piece ds l.piece) ls rest
 
 -- the definitions after further pieces
 abbrev pub definitions : Definitions → List Laid → Definitions
@@ -90,7 +92,8 @@ token_by known front text Blank = []
 token_by known front text Comment = []
 token_by known front text Include = []
 token_by known front text (Define name literal) = []
-token_by known front text (Lexeme kind) = record { kind = replaced_by known kind; from = length front; to = length (front ++ text); spot = spot_after front } ∷ []
+token_by known front text (Lexeme kind) =
+    record { kind = replaced_by known kind; from = length front; to = length (front ++ text); spot = spot_after front } ∷ []
 
 -- the tokens of pieces, after this front of the source and these definitions
 abbrev pub tokens_of : List ℕ → Definitions → List Laid → List Token
@@ -125,10 +128,12 @@ IsRule k.Directive text rule = rule ≡ L5
 
 -- no piece can start after this front of the source, where this rest of it stands
 abbrev pub IsStuck : List ℕ → Definitions → List ℕ → Type 0
-IsStuck front ds text = (piece : Piece) (spelling rest : List ℕ) → text ≡ spelling ++ rest → SpellsPiece (is_fresh_after front) piece spelling rest → IsTrue (is_new ds piece) → ⊥
+IsStuck front ds text =
+    (piece : Piece) (spelling rest : List ℕ) → text ≡ spelling ++ rest
+    → SpellsPiece (is_fresh_after front) piece spelling rest → IsTrue (is_new ds piece) → ⊥
 
--- after these pieces the source goes on, and no piece can start
-pub record Stops (source : List ℕ) (broken : LexRule) (at : Spot) : Type 0 where
+-- after some pieces the source goes on where no piece can start: there it breaks the rule
+pub record BreaksOff (source : List ℕ) (broken : LexRule) (at : Spot) : Type 0 where
   pub pieces : List Laid
   pub rest : List ℕ
   pub text : source ≡ laid pieces ++ rest
@@ -138,6 +143,8 @@ pub record Stops (source : List ℕ) (broken : LexRule) (at : Spot) : Type 0 whe
   pub rule : IsRule (kind_at (is_fresh_after (laid pieces)) rest) rest broken
   pub spot : at ≡ spot_after (laid pieces)
 
--- the source is refused by this rule at this spot
-abbrev pub Refuses : List ℕ → LexRule → Spot → Type 0
-Refuses source rule spot = ((1048576 < length source) × (rule ≡ L6) × (spot ≡ spot_after [])) ⊎ ((length source ≤ 1048576) × Stops source rule spot)
+-- the source has no tokens, since it breaks this rule at this spot
+abbrev pub HasNoTokens : List ℕ → LexRule → Spot → Type 0
+HasNoTokens source rule spot =
+    ((1048576 < length source) × (rule ≡ L6) × (spot ≡ spot_after []))
+    ⊎ ((length source ≤ 1048576) × BreaksOff source rule spot)
