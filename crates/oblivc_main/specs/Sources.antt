@@ -5,7 +5,7 @@ use Rattle.oc_source.specs.declared.parsed.Program.{Program}
 use Rattle.oc_tree.specs.declared.program.Typed.{Typed}
 use Rattle.oc_lexer.specs.declared.token.Lexed.{Lexed}
 use Rattle.oc_lexer.specs.Places.{spot_after}
-use Rattle.oc_lexer.specs.Sources.{Spells, Refuses as HasNoTokens}
+use Rattle.oc_lexer.specs.Sources.{Spells, HasNoTokens}
 use Rattle.oc_grammar.specs.Headings.{Derives}
 use Rattle.oc_parser.specs.Load.{IsLight}
 use Rattle.oc_parser.specs.Refusals.{Refuses as HasNoTree}

@@ -8,14 +8,15 @@ use Rattle.std.proofs.lemmas.Bool.Decides.{nat_tests}
 use Rattle.std.proofs.lemmas.Slice.Eq.{bytes_eq-Decides}
 use Rattle.oc_source.specs.declared.literal.Literal.{Literal}
 use Rattle.oc_lexer.specs.declared.bytes.ByteClass.TheVariants as class
-use Rattle.oc_lexer.specs.Bytes.{is_in, is_space, is_name_start, is_name_byte, begins_with, run, after}
+use Rattle.oc_lexer.specs.Bytes.{is_in, is_space, is_name_start, is_name_byte, is_empty, begins_with, run, after}
 use Rattle.oc_lexer.specs.Comments.{ends_line}
 use Rattle.oc_lexer.specs.Words.{keyword_of}
-use Rattle.oc_lexer.specs.Numbers.{literal_of, suffix_of, is_empty}
+use Rattle.oc_lexer.specs.ScannedNumbers.{literal_of, suffix_of}
 use Rattle.oc_lexer.specs.Directives.{headers, Includes, Defines}
-use Rattle.oc_lexer.specs.Reading.{find_header, header_end, header_at, included, include_length, is_free_name, is_definition, define_after, define_at}
+use Rattle.oc_lexer.specs.Scanned.{find_header, header_end, header_at, included, include_length, is_free_name, is_definition, define_after, define_at}
 use Rattle.oc_lexer.proofs.Runs.{run-append-after, run_all, after_longest, run_is, after_is}
-use Rattle.oc_lexer.proofs.Parts.{Cut, define_goes}
+use Rattle.oc_lexer.proofs.Cuts.{Cut, define_goes}
+use Rattle.oc_lexer.proofs.Written.{number_spelled, number_read}
 use Rattle.oc_lexer.proofs.Openings.{starts_true, starts_of, drop_front}
 
 taken : {A : Type 0} (b : Bool) (o : Option A) (x : A) → cond b o None ≡ Some x → (b ≡ true) × (o ≡ Some x)
@@ -241,7 +242,7 @@ defined_from name literal n text body start m =
         second_spaced = r.1;
         digits = run_all (is_in class.Number) (after_second body);
         longest = after_longest (is_in class.Number) (after_second body);
-        value = m.value;
+        value = number_spelled literal digits m.value;
         ends = p.1;
       };
     }
@@ -298,7 +299,8 @@ define_spelled name literal text rest d =
     let whole : text ++ rest ≡ codes "#define" ++ body = ap (λ t. t ++ rest) d.whole ∙ ap (λ t. codes "#define" ++ t) flat in
     let at_first = name_unspaced name middle d.begins in
     let at_middle = second_unnamed d.second last d.second_spaced d.second_spaces in
-    let at_last = digits_unspaced d.number rest literal d.value d.digits in
+    let value = number_read literal d.number d.value in
+    let at_last = digits_unspaced d.number rest literal value d.digits in
     let fits = and_from _ _ (and_from _ _ (and_from _ _ d.spaced d.second_spaced) (and_from _ _ d.begins (ap is_none d.free))) d.ends in
     let cut : Cut (codes "#define" ++ body) d.gap name d.second d.number rest = record {
       body = body;
@@ -320,5 +322,5 @@ define_spelled name literal text rest d =
     let k = length-append text rest in
     let size : length (codes "#define" ++ body) - length rest ≡ length text = omega arith in (
       ap include_length whole ∙ not_include body,
-      ap define_at whole ∙ sym (define_goes (codes "#define" ++ body) d.gap name d.second d.number rest (Some literal) cut fits (sym d.value)) ∙ ap (λ n. Some (name, literal, n)) size,
+      ap define_at whole ∙ sym (define_goes (codes "#define" ++ body) d.gap name d.second d.number rest (Some literal) cut fits (sym value)) ∙ ap (λ n. Some (name, literal, n)) size,
     )

@@ -4,7 +4,7 @@ use Rattle.std.specs.Prelude.{◌&&◌, ◌||◌, nat_eq, option_map}
 use Rattle.std.proofs.lemmas.Bool.{and_parts, true≢false}
 use Rattle.std.proofs.lemmas.Bool.Decides.{nat_tests}
 use Rattle.oc_lexer.specs.Comments.{has_end}
-use Rattle.oc_lexer.specs.Reading.{body_length}
+use Rattle.oc_lexer.specs.Scanned.{body_length}
 use Rattle.oc_lexer.proofs.CommentEnds.{body_cons}
 
 abbrev is_end : ℕ → ℕ → Bool

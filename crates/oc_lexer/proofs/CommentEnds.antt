@@ -8,7 +8,7 @@ use Rattle.std.proofs.lemmas.List.{drop_more, drop_all, get_or-drop}
 use Rattle.oc_lexer.specs.Bytes.{is_space, after, begins_with}
 use Rattle.oc_lexer.specs.Comments.{ends_line}
 use Rattle.oc_lexer.proofs.Runs.{after_longest}
-use Rattle.oc_lexer.specs.Reading.{body_length, comment_length, is_line_end, starts_comment}
+use Rattle.oc_lexer.specs.Scanned.{body_length, comment_length, is_line_end, starts_comment}
 
 -- ---- the first end of a comment
 

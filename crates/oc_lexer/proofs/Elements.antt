@@ -6,7 +6,7 @@ use Rattle.std.proofs.lemmas.Bool.{and_parts, and_from, false≢true}
 use Rattle.std.proofs.lemmas.Bool.Decides.{nat_tests, Decides-eqb}
 use Rattle.oc_lexer.specs.Literals.{Element, Plain, Escape, element_text, element_value, elements_text, is_element, is_escape, escape_value, is_text_byte, is_character_byte}
 use Rattle.oc_lexer.specs.Pieces.{SpellsCharacter}
-use Rattle.oc_lexer.specs.Reading.{character_at, element_at, onto, onto_escape, quoted}
+use Rattle.oc_lexer.specs.Scanned.{character_at, element_at, onto, onto_escape, quoted}
 use Rattle.oc_lexer.proofs.Quotes.{with_element, quoted_element, quoted_end}
 
 eq_from : (a b : ℕ) → nat_eq a b ≡ true → a ≡ b

@@ -13,16 +13,17 @@ use Rattle.oc_lexer.specs.Bytes.{is_in, is_name_start, is_name_byte, is_digit, b
 use Rattle.oc_lexer.specs.Kinds.{kind_at}
 use Rattle.oc_lexer.specs.Comments.{has_end}
 use Rattle.oc_lexer.specs.Words.{keyword_of, word_kind, sign_text}
-use Rattle.oc_lexer.specs.Numbers.{literal_of}
+use Rattle.oc_lexer.specs.ScannedNumbers.{literal_of}
 use Rattle.oc_lexer.specs.Literals.{elements_text}
 use Rattle.oc_lexer.specs.Directives.{Includes, Defines}
 use Rattle.oc_lexer.specs.Pieces.{Piece, Comment, Lexeme, IsRun, SpellsCharacter, SpellsText, Spelled, SpellsPiece}
-use Rattle.oc_lexer.specs.Reading.{body_length, comment_length, sign_at, character_at, quoted, include_length, define_at, piece_by, piece_at, directive_of, defined_piece, lexeme_of_length}
+use Rattle.oc_lexer.specs.Scanned.{body_length, comment_length, sign_at, character_at, quoted, include_length, define_at, piece_by, piece_at, directive_of, defined_piece, lexeme_of_length}
 use Rattle.oc_lexer.proofs.Runs.{run-append-after, run_all, after_longest, run_is}
 use Rattle.oc_lexer.proofs.Openings.{told}
 use Rattle.oc_lexer.proofs.Longest.{sign_some, sign_found, sign_spelled}
 use Rattle.oc_lexer.proofs.Elements.{character_found, character_spelled, quoted_found, quoted_spelled}
 use Rattle.oc_lexer.proofs.Bodies.{body_found, body_spelled}
+use Rattle.oc_lexer.proofs.Written.{number_spelled, number_read}
 use Rattle.oc_lexer.proofs.Accepted.{include_found, include_spelled, define_found, define_spelled}
 
 -- ---- what is read is spelled
@@ -71,7 +72,7 @@ slash_line b h = grind (arith, nat_tests)
 
 number_front : (text : List ℕ) (o : Option Literal) → literal_of (run (is_in class.Number) text) ≡ o → 1 ≤ length (run (is_in class.Number) text) → At k.Number text (lexeme_of_length (length (run (is_in class.Number) text)) o)
 number_front text None e some = tt
-number_front text (Some literal) e some = run_front k.Number (is_in class.Number) (Lexeme (t.Number literal)) text some (λ r. (literal, refl, e, r))
+number_front text (Some literal) e some = run_front k.Number (is_in class.Number) (Lexeme (t.Number literal)) text some (λ r. (literal, refl, number_spelled literal _ e, r))
 
 character_some : (v n : ℕ) (text : List ℕ) → n ≡ length text → SpellsCharacter v text → 1 ≤ n
 character_some v n text size s = let l = ap length s.whole in omega arith
@@ -193,7 +194,7 @@ spelled_at k.Directive piece text rest (inr (name, literal, is, d)) =
 spelled_at k.Word piece text rest s =
     ap (λ x. let o : Option (Piece × ℕ) = Some (Lexeme (word_kind (keyword_of x) x), length x) in o) (run_is is_name_byte text rest s.1.all s.1.longest) ∙ ap (λ p. Some (p, length text)) (sym s.0)
 spelled_at k.Number piece text rest (literal, is, value, r) =
-    ap (λ x. lexeme_of_length (length x) (literal_of x)) (run_is (is_in class.Number) text rest r.all r.longest) ∙ ap (lexeme_of_length (length text)) value ∙ ap (λ p. Some (p, length text)) (sym is)
+    ap (λ x. lexeme_of_length (length x) (literal_of x)) (run_is (is_in class.Number) text rest r.all r.longest) ∙ ap (lexeme_of_length (length text)) (number_read literal text value) ∙ ap (λ p. Some (p, length text)) (sym is)
 spelled_at k.Character piece text rest (v, is, s) =
     ap (option_map (λ c. let p : Piece × ℕ = (Lexeme (t.Character c.0), c.1) in p)) (character_spelled v text rest s) ∙ ap (λ p. Some (p, length text)) (sym is)
 spelled_at k.Text piece text rest (bytes, is, s) =

@@ -1,6 +1,8 @@
 pub mod Runs
 pub mod CommentEnds
-pub mod Parts
+pub mod Cuts
+pub mod Suffixes
+pub mod Written
 pub mod Quotes
 pub mod Openings
 pub mod Longest

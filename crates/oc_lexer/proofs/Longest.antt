@@ -11,7 +11,7 @@ use Rattle.oc_lexer.specs.declared.token.Sign.{Sign}
 use Rattle.oc_lexer.specs.declared.token.Sign.TheVariants as s
 use Rattle.oc_lexer.specs.Words.{sign_text, signs}
 use Rattle.oc_lexer.specs.Pieces.{SpellsSign}
-use Rattle.oc_lexer.specs.Reading.{find_sign, sign_at}
+use Rattle.oc_lexer.specs.Scanned.{find_sign, sign_at}
 use Rattle.oc_lexer.proofs.Openings.{starts_true, starts_of, split_is}
 
 -- the second sign begins with the first one and is longer

@@ -5,7 +5,7 @@ use Rattle.std.proofs.lemmas.Bool.{false≢true}
 use Rattle.std.proofs.lemmas.Bool.Decides.{nat_tests}
 use Rattle.std.proofs.lemmas.List.{append-nil, drop-drop, get_or-drop}
 use Rattle.oc_lexer.specs.Literals.{escape_value, is_text_byte}
-use Rattle.oc_lexer.specs.Reading.{element_at, onto, onto_escape, quoted}
+use Rattle.oc_lexer.specs.Scanned.{element_at, onto, onto_escape, quoted}
 
 -- ---- one element
 

@@ -15,6 +15,7 @@ use Rattle.std.proofs.lemmas.List.Folds.{list_all-append}
 use Rattle.std.proofs.lemmas.Cmp.{nat_list_eq_equiv}
 use denote.Ref.{Bor}
 use Rattle.oc_lexer.proofs.Exact.{front_of, spelled_of}
+use Rattle.oc_lexer.proofs.Written.{rule_is, rule_only}
 use Rattle.oc_lexer.proofs.Openings.{split_is, take_front, drop_front}
 use Rattle.oc_source.specs.declared.spot.Spot.{Spot}
 use Rattle.oc_source.specs.declared.literal.Literal.{Literal}
@@ -23,14 +24,18 @@ use Rattle.oc_lexer.specs.declared.token.LexRule.{LexRule}
 use Rattle.oc_lexer.specs.declared.token.Token.{Token}
 use Rattle.oc_lexer.specs.declared.token.TokenKind.{TokenKind}
 use Rattle.oc_lexer.specs.declared.token.TokenKind.TheVariants as t
-use Rattle.oc_lexer.specs.Bytes.{is_blank}
+use Rattle.oc_lexer.specs.declared.bytes.ByteClass.TheVariants as class
+use Rattle.oc_lexer.specs.declared.kinds.Kind.{Kind}
+use Rattle.oc_lexer.specs.declared.kinds.Kind.TheVariants as k
+use Rattle.oc_lexer.specs.Bytes.{is_blank, is_in, run}
 use Rattle.oc_lexer.specs.Kinds.{kind_at}
 use Rattle.oc_lexer.specs.Places.{is_newline, last_line, spot_after, is_fresh_after}
 use Rattle.oc_lexer.specs.Moving.{place_of, stepped, passed, token_between}
 use Rattle.oc_lexer.specs.Pieces.{Piece, Blank, Comment, Include, Define, Lexeme, Spelled, SpellsPiece}
-use Rattle.oc_lexer.specs.Sources.{Definitions, defined, with_piece, is_new, is_new_by, Laid, laid, AreLaid, definitions, token_by, replaced_by, number_or_name, tokens_of, Spells, rule_of, IsStuck, Stops, Refuses}
+use Rattle.oc_lexer.specs.Sources.{Definitions, defined, with_piece, is_new, is_new_by, Laid, laid, AreLaid, definitions, token_by, replaced_by, number_or_name, tokens_of, Spells, IsRule, IsStuck, BreaksOff, HasNoTokens}
 use Rattle.oc_lexer.specs.Known.{Knows, get_at, known_after, filtered}
-use Rattle.oc_lexer.specs.Reading.{piece_at, sign_at}
+use Rattle.oc_lexer.specs.ScannedNumbers.{literal_of}
+use Rattle.oc_lexer.specs.Scanned.{piece_at, piece_by, lexeme_of_length, rule_of, sign_at}
 
 -- ---- the piece at the front of a text
 
@@ -324,7 +329,7 @@ module _ {source rest : List ℕ} {place : Place} {known : BTreeMap (Bor (List �
       let same = same_walk [] [] o.pieces w.pieces [] [] o.spelled all_spelled (append-nil (laid o.pieces) ∙ sym o.text ∙ whole ∙ sym (append-nil (laid w.pieces))) (stuck_end (laid o.pieces) (definitions [] o.pieces)) (stuck_end (laid w.pieces) (definitions [] w.pieces)) in
       o.given ∙ ap (tokens_of [] []) same.0 ∙ sym w.given
 
-  pub walked_accepted : (rule : LexRule) (spot : Spot) → Refuses source rule spot → ⊥
+  pub walked_accepted : (rule : LexRule) (spot : Spot) → HasNoTokens source rule spot → ⊥
   walked_accepted rule spot (inl long) = let s = w.size in let l = long.0 in omega arith
   walked_accepted rule spot (inr short) =
       let o = short.1 in
@@ -333,6 +338,14 @@ module _ {source rest : List ℕ} {place : Place} {known : BTreeMap (Bor (List �
 
 -- ---- a source at whose rest no piece can start
 
+unread : (known : List ℕ → Option Literal) (n : ℕ) (o : Option Literal) → filtered known (lexeme_of_length n o) ≡ None → o ≡ None
+unread known n None e = refl
+unread known n (Some literal) e = absurd cc
+
+-- no literal is read where no piece is, and a number begins
+no_literal : (known : List ℕ → Option Literal) (kind : Kind) (text : List ℕ) → filtered known (piece_by kind text) ≡ None → kind ≡ k.Number → literal_of (run (is_in class.Number) text) ≡ None
+no_literal known kind text e is = unread known (length (run (is_in class.Number) text)) (literal_of (run (is_in class.Number) text)) (ap (λ x. filtered known (piece_by x text)) (sym is) ∙ e)
+
 module _ {source rest : List ℕ} {place : Place} {known : BTreeMap (Bor (List ℕ)) Literal} {tokens : List Token} (w : Walked source rest place known tokens) (some : rest ≡ [] → ⊥) (none : filtered (get_at known) (piece_at place.is_fresh rest) ≡ None) where
   fresh : place.is_fresh ≡ is_fresh_after (laid w.pieces)
   fresh = ap (λ (p : Place). p.is_fresh) w.at
@@ -340,7 +353,7 @@ module _ {source rest : List ℕ} {place : Place} {known : BTreeMap (Bor (List �
   stuck_here : IsStuck (laid w.pieces) (definitions [] w.pieces) rest
   stuck_here = stuck known (definitions [] w.pieces) (laid w.pieces) rest w.knows (ap (λ f. filtered (get_at known) (piece_at f rest)) (sym fresh) ∙ none)
 
-  stopped : Stops source (rule_of (kind_at place.is_fresh rest) rest) place.spot
+  stopped : BreaksOff source (rule_of (kind_at place.is_fresh rest) rest) place.spot
   stopped = record {
     pieces = w.pieces;
     rest = rest;
@@ -348,20 +361,20 @@ module _ {source rest : List ℕ} {place : Place} {known : BTreeMap (Bor (List �
     some = some;
     spelled = w.spelled;
     stuck = stuck_here;
-    rule = ap (λ f. rule_of (kind_at f rest) rest) fresh;
+    rule = subst (λ f. IsRule (kind_at f rest) rest (rule_of (kind_at place.is_fresh rest) rest)) fresh (rule_is (kind_at place.is_fresh rest) rest (no_literal (get_at known) (kind_at place.is_fresh rest) rest none));
     spot = ap (λ (p : Place). p.spot) w.at;
   }
 
-  pub walked_refused : (rule : LexRule) → rule ≡ rule_of (kind_at place.is_fresh rest) rest → Refuses source rule place.spot
-  walked_refused rule e = inr (w.size, subst (λ r. Stops source r place.spot) (sym e) stopped)
+  pub walked_refused : (rule : LexRule) → rule ≡ rule_of (kind_at place.is_fresh rest) rest → HasNoTokens source rule place.spot
+  walked_refused rule e = inr (w.size, subst (λ r. BreaksOff source r place.spot) (sym e) stopped)
 
-  pub walked_only_refusal : (rule : LexRule) → rule ≡ rule_of (kind_at place.is_fresh rest) rest → (other : LexRule) (at : Spot) → Refuses source other at → (other ≡ rule) × (at ≡ place.spot)
+  pub walked_only_refusal : (rule : LexRule) → rule ≡ rule_of (kind_at place.is_fresh rest) rest → (other : LexRule) (at : Spot) → HasNoTokens source other at → (other ≡ rule) × (at ≡ place.spot)
   walked_only_refusal rule e other at (inl long) = let s = w.size in let l = long.0 in absurd (omega arith)
   walked_only_refusal rule e other at (inr short) =
       let o = short.1 in
       let same = same_walk [] [] o.pieces w.pieces o.rest rest o.spelled w.spelled (sym o.text ∙ w.text) o.stuck stuck_here in
       let there : place_of (laid o.pieces) ≡ place = ap (λ ls. place_of (laid ls)) same.0 ∙ sym w.at in (
-        o.rule ∙ ap (λ (p : Place). rule_of (kind_at p.is_fresh o.rest) o.rest) there ∙ ap (λ t. rule_of (kind_at place.is_fresh t) t) same.1 ∙ sym e,
+        rule_only _ o.rest other o.rule ∙ ap (λ (p : Place). rule_of (kind_at p.is_fresh o.rest) o.rest) there ∙ ap (λ t. rule_of (kind_at place.is_fresh t) t) same.1 ∙ sym e,
         o.spot ∙ ap (λ (p : Place). p.spot) there,
       )
 

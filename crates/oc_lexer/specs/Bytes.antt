@@ -1,5 +1,5 @@
 -- Bytes of a source: the classes that they are of, and runs of bytes of one class.
-use Rattle.std.specs.Prelude.{ℕ, List, [], ◌∷◌, Bool, false, ◌&&◌, ◌||◌, not, nat_eq, nat_le, if◌then◌else◌}
+use Rattle.std.specs.Prelude.{ℕ, List, [], ◌∷◌, Bool, true, false, ◌&&◌, ◌||◌, not, nat_eq, nat_le, if◌then◌else◌}
 use Rattle.oc_lexer.specs.declared.bytes.ByteClass.{ByteClass}
 use Rattle.oc_lexer.specs.declared.bytes.ByteClass.TheVariants.{Space, Name, Number, Decimal, Octal, Hexadecimal, Line}
 
@@ -32,6 +32,11 @@ is_in Decimal b = is_digit b
 is_in Octal b = nat_le 48 b && nat_le b 55
 is_in Hexadecimal b = is_digit b || (nat_le 65 b && nat_le b 70) || (nat_le 97 b && nat_le b 102)
 is_in Line b = not (nat_eq b 10)
+
+-- whether a text has no bytes
+abbrev pub is_empty : List ℕ → Bool
+is_empty [] = true
+is_empty (b ∷ bs) = false
 
 -- whether a text begins with a byte of the class
 abbrev pub begins_with : (ℕ → Bool) → List ℕ → Bool

@@ -1,13 +1,13 @@
 -- Directives: `#include` of one of four headers, and `#define` of a name that stands for a number.
-use Rattle.std.specs.Prelude.{ℕ, ◌≡◌, List, [], ◌∷◌, ◌++◌, Some, None, false, not, IsTrue, codes}
+use Rattle.std.specs.Prelude.{ℕ, ◌≡◌, List, [], ◌∷◌, ◌++◌, None, false, not, IsTrue, codes}
 use Rattle.std.specs.List.{list_all, list_any}
 use Rattle.std.specs.Str.{bytes_eq}
 use Rattle.oc_source.specs.declared.literal.Literal.{Literal}
 use Rattle.oc_lexer.specs.declared.bytes.ByteClass.TheVariants as class
-use Rattle.oc_lexer.specs.Bytes.{is_in, is_space, is_name_start, is_name_byte, begins_with}
+use Rattle.oc_lexer.specs.Bytes.{is_in, is_space, is_name_start, is_name_byte, is_empty, begins_with}
 use Rattle.oc_lexer.specs.Comments.{ends_line}
 use Rattle.oc_lexer.specs.Words.{keyword_of}
-use Rattle.oc_lexer.specs.Numbers.{literal_of, is_empty}
+use Rattle.oc_lexer.specs.Numbers.{SpellsNumber}
 
 -- what an `#include` may name, with its angle brackets
 abbrev pub headers : List (List ℕ)
@@ -37,5 +37,5 @@ pub record Defines (name : List ℕ) (literal : Literal) (text rest : List ℕ) 
   pub second_spaced : IsTrue (not (is_empty second))
   pub digits : IsTrue (list_all (is_in class.Number) number)
   pub longest : IsTrue (not (begins_with (is_in class.Number) rest))
-  pub value : literal_of number ≡ Some literal
+  pub value : SpellsNumber literal number
   pub ends : IsTrue (ends_line false rest)

@@ -5,8 +5,8 @@ use Rattle.oc_lexer.specs.declared.kinds.Kind.TheVariants.{Blank, Word, Number, 
 use Rattle.oc_lexer.specs.Bytes.{is_blank, is_name_start, is_digit, begins_with}
 
 -- what begins so: by the first byte, what follows it, and whether only blanks stand before it on its line
-abbrev pub kind_of : Bool → ℕ → List ℕ → Kind
-kind_of is_fresh b more =
+abbrev pub kind_by : Bool → ℕ → List ℕ → Kind
+kind_by is_fresh b more =
     if is_blank b then Blank
     else if is_name_start b then Word
     else if is_digit b then Number
@@ -20,4 +20,4 @@ kind_of is_fresh b more =
 -- what begins at the front of a text, where the flag says whether only blanks stand before it on its line
 unfoldable pub kind_at : Bool → List ℕ → Kind
 kind_at is_fresh [] = Sign
-kind_at is_fresh (b ∷ more) = kind_of is_fresh b more
+kind_at is_fresh (b ∷ more) = kind_by is_fresh b more

@@ -3,12 +3,13 @@ pub mod Kinds
 pub mod Comments
 pub mod Words
 pub mod Numbers
+pub mod ScannedNumbers
 pub mod Literals
 pub mod Places
 pub mod Directives
 pub mod Pieces
 pub mod Sources
-pub mod Reading
+pub mod Scanned
 pub mod Moving
 pub mod Known
 pub mod Faults

@@ -1,33 +1,25 @@
--- Numbers: which runs of bytes are one, and the kind and the value of each.
-use Rattle.std.specs.Prelude.{ℕ, ◌≡◌, refl, ◌+◌, ◌*◌, ◌-◌, List, [], ◌∷◌, get_or, drop, fold, Option, Some, None, Bool, true, false, ◌||◌, nat_eq, nat_le, codes, if◌then◌else◌}
-use Rattle.std.specs.Map.{lookup}
+-- Numbers: a prefix, digits and a suffix. The digits have a value, and the suffix says which kinds the number may have.
+use Rattle.std.specs.Prelude.{ℕ, ◌≡◌, ◌⊎◌, ◌+◌, ◌*◌, ◌-◌, List, [], ◌∷◌, ◌++◌, fold, Bool, true, false, not, nat_eq, nat_le, codes, IsTrue, if◌then◌else◌}
+use Rattle.std.specs.List.{list_all, list_any}
 use Rattle.std.specs.Str.{bytes_eq}
 use Rattle.oc_values.specs.declared.integers.IntKind.{IntKind}
 use Rattle.oc_values.specs.declared.integers.IntKind.TheVariants.{I32, U32, I64, U64}
 use Rattle.oc_source.specs.declared.literal.Literal.{Literal}
-use Rattle.oc_source.specs.Literals.{holds, is_literal}
+use Rattle.oc_source.specs.Literals.{holds}
 use Rattle.oc_lexer.specs.declared.bytes.ByteClass.{ByteClass}
 use Rattle.oc_lexer.specs.declared.bytes.ByteClass.TheVariants as class
 use Rattle.oc_lexer.specs.declared.numbers.Form.{Form}
 use Rattle.oc_lexer.specs.declared.numbers.Form.TheVariants.{Decimal, Octal, Hexadecimal}
 use Rattle.oc_lexer.specs.declared.numbers.Suffix.{Suffix}
-use Rattle.oc_lexer.specs.Bytes.{is_in, run, after}
+use Rattle.oc_lexer.specs.Bytes.{is_in, begins_with, is_empty}
 
--- a number that begins with 0 is octal, and with 0x or 0X hexadecimal
-abbrev pub form_of : List ℕ → Form
-form_of text = if nat_eq (get_or text 0 0) 48 then (if nat_eq (get_or text 1 0) 120 || nat_eq (get_or text 1 0) 88 then Hexadecimal else Octal) else Decimal
+-- ---- how a number is written
 
--- how many bytes stand before the digits; the leading 0 of an octal number is one of its digits
-abbrev pub prefix_length : Form → ℕ
-prefix_length Decimal = 0
-prefix_length Octal = 0
-prefix_length Hexadecimal = 2
-
--- the base in which the digits of a form are read
-abbrev pub base_of : Form → ℕ
-base_of Decimal = 10
-base_of Octal = 8
-base_of Hexadecimal = 16
+-- what stands before the digits: nothing, `0` for octal ones, `0x` or `0X` for hexadecimal ones
+abbrev pub IsPrefix : Form → List ℕ → Type 0
+IsPrefix Decimal prefix = prefix ≡ []
+IsPrefix Octal prefix = prefix ≡ codes "0"
+IsPrefix Hexadecimal prefix = (prefix ≡ codes "0x") ⊎ (prefix ≡ codes "0X")
 
 -- the class of the bytes that are digits of a form
 abbrev pub digit_class : Form → ByteClass
@@ -35,17 +27,47 @@ digit_class Decimal = class.Decimal
 digit_class Octal = class.Octal
 digit_class Hexadecimal = class.Hexadecimal
 
--- what follows the prefix: digits, and after them the suffix
-abbrev pub body_of : List ℕ → List ℕ
-body_of text = drop (prefix_length (form_of text)) text
+-- whether these digits may follow the prefix: decimal ones begin with no 0, and only after `0` there may be none
+abbrev pub may_follow : Form → List ℕ → Bool
+may_follow Decimal digits = begins_with (λ d. not (nat_eq d 48)) digits
+may_follow Octal digits = true
+may_follow Hexadecimal digits = not (is_empty digits)
 
--- the digits of a number, as far as they go after its prefix
-abbrev pub digits_of : List ℕ → List ℕ
-digits_of text = run (is_in (digit_class (form_of text))) (body_of text)
+-- `u` in either case, where a number has it
+abbrev pub unsigned_marks : Bool → List (List ℕ)
+unsigned_marks false = [] ∷ []
+unsigned_marks true = codes "u" ∷ codes "U" ∷ []
 
--- what follows the digits of a number
-abbrev pub suffix_text : List ℕ → List ℕ
-suffix_text text = after (is_in (digit_class (form_of text))) (body_of text)
+-- `l` or `ll` in either case, where a number has one; `lL` and `Ll` are none
+abbrev pub long_marks : Bool → List (List ℕ)
+long_marks false = [] ∷ []
+long_marks true = codes "l" ∷ codes "L" ∷ codes "ll" ∷ codes "LL" ∷ []
+
+-- the text is the suffix: its `u` and its `l` or `ll`, in either order
+pub record SpellsSuffix (suffix : Suffix) (text : List ℕ) : Type 0 where
+  pub u : List ℕ
+  pub l : List ℕ
+  pub unsigned : IsTrue (list_any (bytes_eq u) (unsigned_marks suffix.unsigned))
+  pub long : IsTrue (list_any (bytes_eq l) (long_marks suffix.long))
+  pub order : (text ≡ u ++ l) ⊎ (text ≡ l ++ u)
+
+-- the text is a number of this form: a prefix, these digits and this suffix
+pub record WritesNumber (form : Form) (digits : List ℕ) (suffix : Suffix) (text : List ℕ) : Type 0 where
+  pub prefix : List ℕ
+  pub ending : List ℕ
+  pub whole : text ≡ prefix ++ (digits ++ ending)
+  pub begins : IsPrefix form prefix
+  pub all : IsTrue (list_all (is_in (digit_class form)) digits)
+  pub some : IsTrue (may_follow form digits)
+  pub ends : SpellsSuffix suffix ending
+
+-- ---- its value
+
+-- the base in which the digits of a form are read
+abbrev pub base_of : Form → ℕ
+base_of Decimal = 10
+base_of Octal = 8
+base_of Hexadecimal = 16
 
 -- the value of a digit, of any base
 abbrev pub digit_value : ℕ → ℕ
@@ -55,30 +77,7 @@ digit_value b = if nat_le b 57 then b - 48 else if nat_le b 70 then b - 55 else 
 abbrev pub value_of : ℕ → List ℕ → ℕ
 value_of base digits = fold (λ v b. v * base + digit_value b) 0 digits
 
--- a suffix: whether it has `u`, and whether it has `l` or `ll`
-abbrev pub suffix : Bool → Bool → Suffix
-suffix unsigned long = record { unsigned = unsigned; long = long }
-
--- `u`, and `l` or `ll`, in either order and either case, but for `lL` and `Ll`
-abbrev pub suffixes : List (List ℕ × Suffix)
-suffixes =
-    ([], suffix false false)
-    ∷ (codes "u", suffix true false) ∷ (codes "U", suffix true false)
-    ∷ (codes "l", suffix false true) ∷ (codes "L", suffix false true) ∷ (codes "ll", suffix false true) ∷ (codes "LL", suffix false true)
-    ∷ (codes "ul", suffix true true) ∷ (codes "uL", suffix true true) ∷ (codes "ull", suffix true true) ∷ (codes "uLL", suffix true true)
-    ∷ (codes "Ul", suffix true true) ∷ (codes "UL", suffix true true) ∷ (codes "Ull", suffix true true) ∷ (codes "ULL", suffix true true)
-    ∷ (codes "lu", suffix true true) ∷ (codes "Lu", suffix true true) ∷ (codes "llu", suffix true true) ∷ (codes "LLu", suffix true true)
-    ∷ (codes "lU", suffix true true) ∷ (codes "LU", suffix true true) ∷ (codes "llU", suffix true true) ∷ (codes "LLU", suffix true true)
-    ∷ []
-
--- whether a text has no bytes
-abbrev pub is_empty : List ℕ → Bool
-is_empty [] = true
-is_empty (b ∷ bs) = false
-
--- the suffix of a number, none where the text is no number
-unfoldable pub suffix_of : List ℕ → Option Suffix
-suffix_of text = if is_empty (digits_of text) then None else lookup (bytes_eq (suffix_text text)) suffixes
+-- ---- its kind
 
 -- the kinds of a number with `l` or `ll` and without `u`, in the order in which they are tried
 abbrev pub long_kinds : Form → List IntKind
@@ -99,34 +98,37 @@ kinds_of form s =
     else if s.long then long_kinds form
     else plain_kinds form
 
--- the first of the kinds that holds a value
-abbrev pub first_holding : List IntKind → ℕ → Option IntKind
-first_holding [] v = None
-first_holding (k ∷ ks) v = if holds k v then Some k else first_holding ks v
+-- none of these kinds holds the value
+abbrev pub none_holds : List IntKind → ℕ → Bool
+none_holds kinds value = list_all (λ kind. not (holds kind value)) kinds
 
--- the literal of a kind and a value, where it is one
-abbrev pub literal_where : (kind : IntKind) (value : ℕ) (is : Bool) → is_literal kind value ≡ is → Option Literal
-literal_where kind value true h = Some (record { kind = kind; value = value; of_kind = h })
-literal_where kind value false h = None
+-- the kind is the first of these that holds the value
+pub record IsFirstHolding (kinds : List IntKind) (value : ℕ) (kind : IntKind) : Type 0 where
+  pub before : List IntKind
+  pub behind : List IntKind
+  pub whole : kinds ≡ before ++ kind ∷ behind
+  pub fits : IsTrue (holds kind value)
+  pub first : IsTrue (none_holds before value)
 
--- the literal of a kind and a value, none where no literal has that kind or the kind doesn't hold the value
-unfoldable pub literal : IntKind → ℕ → Option Literal
-literal kind value = literal_where kind value (is_literal kind value) refl
+-- ---- the three things that a text can be
 
--- the literal of a kind and a value, none where there is no kind or no such literal
-abbrev pub literal_of_kind : Option IntKind → ℕ → Option Literal
-literal_of_kind (Some k) v = literal k v
-literal_of_kind None v = None
+-- the text spells the literal: its value is that of the digits, and its kind the first that holds it
+pub record SpellsNumber (literal : Literal) (text : List ℕ) : Type 0 where
+  pub form : Form
+  pub digits : List ℕ
+  pub suffix : Suffix
+  pub written : WritesNumber form digits suffix text
+  pub value : literal.value ≡ value_of (base_of form) digits
+  pub kind : IsFirstHolding (kinds_of form suffix) literal.value literal.kind
 
--- the literal of a value in this form and with this suffix, none where it is no number or no kind holds it
-abbrev pub literal_with : Option Suffix → Form → ℕ → Option Literal
-literal_with (Some s) form v = literal_of_kind (first_holding (kinds_of form s) v) v
-literal_with None form v = None
+-- the text is a number, and none of the kinds that it may have holds its value
+pub record IsTooLarge (text : List ℕ) : Type 0 where
+  pub form : Form
+  pub digits : List ℕ
+  pub suffix : Suffix
+  pub written : WritesNumber form digits suffix text
+  pub none : IsTrue (none_holds (kinds_of form suffix) (value_of (base_of form) digits))
 
--- the value of the digits of a number, in the base of its form
-abbrev pub number_value : List ℕ → ℕ
-number_value text = value_of (base_of (form_of text)) (digits_of text)
-
--- the literal that a text spells, none where it is no number or no kind holds it
-unfoldable pub literal_of : List ℕ → Option Literal
-literal_of text = literal_with (suffix_of text) (form_of text) (number_value text)
+-- the text is no number
+abbrev pub IsNoNumber : List ℕ → Type 0
+IsNoNumber text = (form : Form) (digits : List ℕ) (suffix : Suffix) → WritesNumber form digits suffix text → ⊥

@@ -1,5 +1,5 @@
 -- The pieces of a source: blanks, comments, directives and the spellings of tokens, each the longest that can start there.
-use Rattle.std.specs.Prelude.{ℕ, ◌≡◌, ◌≤◌, ◌⊎◌, List, [], ◌∷◌, ◌++◌, length, map, Some, Bool, not, IsTrue}
+use Rattle.std.specs.Prelude.{ℕ, ◌≡◌, ◌≤◌, ◌⊎◌, List, [], ◌∷◌, ◌++◌, length, map, Bool, not, IsTrue}
 use Rattle.std.specs.List.{list_all}
 use Rattle.oc_source.specs.declared.literal.Literal.{Literal}
 use Rattle.oc_lexer.specs.declared.bytes.ByteClass.TheVariants as class
@@ -12,7 +12,7 @@ use Rattle.oc_lexer.specs.Bytes.{is_in, is_name_byte, begins_with}
 use Rattle.oc_lexer.specs.Kinds.{kind_at}
 use Rattle.oc_lexer.specs.Comments.{has_end}
 use Rattle.oc_lexer.specs.Words.{keyword_of, word_kind, sign_text}
-use Rattle.oc_lexer.specs.Numbers.{literal_of}
+use Rattle.oc_lexer.specs.Numbers.{SpellsNumber}
 use Rattle.oc_lexer.specs.Literals.{Element, element_text, element_value, elements_text, is_element, is_text_byte, is_character_byte}
 use Rattle.oc_lexer.specs.Directives.{Includes, Defines}
 
@@ -54,10 +54,14 @@ pub record SpellsText (bytes text : List ℕ) : Type 0 where
 abbrev pub Spelled : Kind → Piece → List ℕ → List ℕ → Type 0
 Spelled k.Blank piece text rest = (piece ≡ Blank) × (length text ≡ 1)
 Spelled k.LineComment piece text rest = (piece ≡ Comment) × IsRun (is_in class.Line) text rest
-Spelled k.BlockComment piece text rest = (piece ≡ Comment) × ((body : List ℕ) × (text ≡ 47 ∷ (42 ∷ (body ++ 42 ∷ (47 ∷ [])))) × IsTrue (not (has_end body)))
-Spelled k.Directive piece text rest = ((piece ≡ Include) × Includes text rest) ⊎ ((name : List ℕ) × (literal : Literal) × (piece ≡ Define name literal) × Defines name literal text rest)
+Spelled k.BlockComment piece text rest =
+    (piece ≡ Comment) × ((body : List ℕ) × (text ≡ 47 ∷ (42 ∷ (body ++ 42 ∷ (47 ∷ [])))) × IsTrue (not (has_end body)))
+Spelled k.Directive piece text rest =
+    ((piece ≡ Include) × Includes text rest)
+    ⊎ ((name : List ℕ) × (literal : Literal) × (piece ≡ Define name literal) × Defines name literal text rest)
 Spelled k.Word piece text rest = (piece ≡ Lexeme (word_kind (keyword_of text) text)) × IsRun is_name_byte text rest
-Spelled k.Number piece text rest = (literal : Literal) × (piece ≡ Lexeme (t.Number literal)) × (literal_of text ≡ Some literal) × IsRun (is_in class.Number) text rest
+Spelled k.Number piece text rest =
+    (literal : Literal) × (piece ≡ Lexeme (t.Number literal)) × SpellsNumber literal text × IsRun (is_in class.Number) text rest
 Spelled k.Character piece text rest = (b : ℕ) × (piece ≡ Lexeme (t.Character b)) × SpellsCharacter b text
 Spelled k.Text piece text rest = (bytes : List ℕ) × (piece ≡ Lexeme (t.Text bytes)) × SpellsText bytes text
 Spelled k.Sign piece text rest = (s : Sign) × (piece ≡ Lexeme (t.Sign s)) × SpellsSign s text rest

@@ -12,10 +12,9 @@ use Rattle.oc_lexer.specs.declared.token.LexRule.TheVariants.{L1, L2, L3, L4, L5
 use Rattle.oc_lexer.specs.declared.token.Token.{Token}
 use Rattle.oc_lexer.specs.declared.token.TokenKind.{TokenKind}
 use Rattle.oc_lexer.specs.declared.token.TokenKind.TheVariants as t
-use Rattle.oc_lexer.specs.declared.numbers.Suffix.{Suffix}
 use Rattle.oc_lexer.specs.Bytes.{is_in, run}
 use Rattle.oc_lexer.specs.Kinds.{kind_at}
-use Rattle.oc_lexer.specs.Numbers.{suffix_of}
+use Rattle.oc_lexer.specs.Numbers.{IsNoNumber, IsTooLarge}
 use Rattle.oc_lexer.specs.Places.{spot_after, is_fresh_after}
 use Rattle.oc_lexer.specs.Pieces.{Piece, Blank, Comment, Include, Define, Lexeme, SpellsPiece}
 
@@ -78,7 +77,9 @@ laid (l ∷ ls) = l.text ++ laid ls
 -- the pieces stand one after the other, after this front of the source and these definitions, and before this rest of it
 abbrev pub AreLaid : List ℕ → Definitions → List Laid → List ℕ → Type 0
 AreLaid front ds [] rest = Unit {0}
-AreLaid front ds (l ∷ ls) rest = SpellsPiece (is_fresh_after front) l.piece l.text (laid ls ++ rest) × IsTrue (is_new ds l.piece) × AreLaid (front ++ l.text) (with_piece ds l.piece) ls rest
+AreLaid front ds (l ∷ ls) rest =
+    SpellsPiece (is_fresh_after front) l.piece l.text (laid ls ++ rest) × IsTrue (is_new ds l.piece)
+    × AreLaid (front ++ l.text) (with_piece ds l.piece) ls rest
 
 -- the definitions after further pieces
 abbrev pub definitions : Definitions → List Laid → Definitions
@@ -91,7 +92,8 @@ token_by known front text Blank = []
 token_by known front text Comment = []
 token_by known front text Include = []
 token_by known front text (Define name literal) = []
-token_by known front text (Lexeme kind) = record { kind = replaced_by known kind; from = length front; to = length (front ++ text); spot = spot_after front } ∷ []
+token_by known front text (Lexeme kind) =
+    record { kind = replaced_by known kind; from = length front; to = length (front ++ text); spot = spot_after front } ∷ []
 
 -- the tokens of pieces, after this front of the source and these definitions
 abbrev pub tokens_of : List ℕ → Definitions → List Laid → List Token
@@ -108,38 +110,41 @@ pub record Spells (source : List ℕ) (tokens : List Token) : Type 0 where
   pub spelled : AreLaid [] [] pieces []
   pub given : tokens ≡ tokens_of [] [] pieces
 
--- a run of bytes that is no number breaks another rule than a number that no kind holds
-abbrev pub number_rule : Option Suffix → LexRule
-number_rule None = L3
-number_rule (Some suffix) = L4
+-- a text that begins with a digit breaks one rule where it is no number, and another where no kind holds the number
+abbrev pub IsNumberRule : List ℕ → LexRule → Type 0
+IsNumberRule text rule = ((rule ≡ L3) × IsNoNumber text) ⊎ ((rule ≡ L4) × IsTooLarge text)
 
--- the rule for what begins so and spells nothing
-abbrev pub rule_of : Kind → List ℕ → LexRule
-rule_of k.Blank text = L1
-rule_of k.Word text = L1
-rule_of k.Character text = L1
-rule_of k.Text text = L1
-rule_of k.Sign text = L1
-rule_of k.LineComment text = L1
-rule_of k.BlockComment text = L2
-rule_of k.Number text = number_rule (suffix_of (run (is_in class.Number) text))
-rule_of k.Directive text = L5
+-- the rule that a text breaks which begins so and spells nothing
+abbrev pub IsRule : Kind → List ℕ → LexRule → Type 0
+IsRule k.Blank text rule = rule ≡ L1
+IsRule k.Word text rule = rule ≡ L1
+IsRule k.Character text rule = rule ≡ L1
+IsRule k.Text text rule = rule ≡ L1
+IsRule k.Sign text rule = rule ≡ L1
+IsRule k.LineComment text rule = rule ≡ L1
+IsRule k.BlockComment text rule = rule ≡ L2
+IsRule k.Number text rule = IsNumberRule (run (is_in class.Number) text) rule
+IsRule k.Directive text rule = rule ≡ L5
 
 -- no piece can start after this front of the source, where this rest of it stands
 abbrev pub IsStuck : List ℕ → Definitions → List ℕ → Type 0
-IsStuck front ds text = (piece : Piece) (spelling rest : List ℕ) → text ≡ spelling ++ rest → SpellsPiece (is_fresh_after front) piece spelling rest → IsTrue (is_new ds piece) → ⊥
+IsStuck front ds text =
+    (piece : Piece) (spelling rest : List ℕ) → text ≡ spelling ++ rest
+    → SpellsPiece (is_fresh_after front) piece spelling rest → IsTrue (is_new ds piece) → ⊥
 
--- after these pieces the source goes on, and no piece can start
-pub record Stops (source : List ℕ) (broken : LexRule) (at : Spot) : Type 0 where
+-- after some pieces the source goes on where no piece can start: there it breaks the rule
+pub record BreaksOff (source : List ℕ) (broken : LexRule) (at : Spot) : Type 0 where
   pub pieces : List Laid
   pub rest : List ℕ
   pub text : source ≡ laid pieces ++ rest
   pub some : rest ≡ [] → ⊥
   pub spelled : AreLaid [] [] pieces rest
   pub stuck : IsStuck (laid pieces) (definitions [] pieces) rest
-  pub rule : broken ≡ rule_of (kind_at (is_fresh_after (laid pieces)) rest) rest
+  pub rule : IsRule (kind_at (is_fresh_after (laid pieces)) rest) rest broken
   pub spot : at ≡ spot_after (laid pieces)
 
--- the source is refused by this rule at this spot
-abbrev pub Refuses : List ℕ → LexRule → Spot → Type 0
-Refuses source rule spot = ((1048576 < length source) × (rule ≡ L6) × (spot ≡ spot_after [])) ⊎ ((length source ≤ 1048576) × Stops source rule spot)
+-- the source has no tokens, since it breaks this rule at this spot
+abbrev pub HasNoTokens : List ℕ → LexRule → Spot → Type 0
+HasNoTokens source rule spot =
+    ((1048576 < length source) × (rule ≡ L6) × (spot ≡ spot_after []))
+    ⊎ ((length source ≤ 1048576) × BreaksOff source rule spot)

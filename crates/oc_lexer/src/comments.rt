@@ -2,7 +2,7 @@
 
 ghost use Rattle.std.specs.Prelude.{◌≡◌, ◌≤◌, ◌<◌, ◌+◌, ◌&&◌, nat_eq, get_or, IfSome, length, false};
 ghost use Rattle.oc_lexer.specs.Comments.{ends_line};
-ghost use Rattle.oc_lexer.specs.Reading.{body_length, comment_length, is_line_end, starts_comment};
+ghost use Rattle.oc_lexer.specs.Scanned.{body_length, comment_length, is_line_end, starts_comment};
 
 use crate::bytes::{ByteClass, byte_at, split_run};
 
@@ -30,7 +30,7 @@ fn body_length(text: &[u8]) -> Option<usize>
 }
 
 /// How many bytes the comment has that begins here with its two bytes, none where it isn't closed.
-#[tactic(auto, unfolding(crate::specs::Reading::comment_length))]
+#[tactic(auto, unfolding(crate::specs::Scanned::comment_length))]
 pub fn comment_length(text: &[u8]) -> Option<usize>
     ensures value { result ≡ comment_length text.now }
     ensures within { IfSome result (λ n. n ≤ length text.now) }

@@ -1,7 +1,7 @@
 //! Directives.
 
 ghost use Rattle.std.specs.Prelude.{◌≡◌, ◌≤◌, IfSome, length, map, option_map};
-ghost use Rattle.oc_lexer.specs.Reading.{define_at, find_header, header_at, include_length, is_definition, is_free_name};
+ghost use Rattle.oc_lexer.specs.Scanned.{define_at, find_header, header_at, include_length, is_definition, is_free_name};
 
 use crate::bytes::{ByteClass, byte_at, is_name_start, split_run};
 use crate::comments::ends_line;
@@ -36,7 +36,7 @@ fn header_at(text: &[u8]) -> Option<usize>
 }
 
 /// How many bytes an accepted `#include` has that begins here.
-#[tactic(auto, unfolding(crate::specs::Reading::include_length))]
+#[tactic(auto, unfolding(crate::specs::Scanned::include_length))]
 pub fn include_length(text: &[u8]) -> Option<usize>
     ensures value { result ≡ include_length text.now }
 {
@@ -65,7 +65,7 @@ fn is_definition(gap: &[u8], name: &[u8], second: &[u8], rest: &[u8]) -> bool
 
 /// The name and the literal of an accepted `#define` that begins here, but for whether the name is new, and
 /// how many bytes it has.
-#[tactic(auto, unfolding(crate::specs::Reading::define_at))]
+#[tactic(auto, unfolding(crate::specs::Scanned::define_at))]
 pub fn define_at(text: &[u8]) -> Option<(&[u8], Literal, usize)>
     ensures value { option_map (λ d. (d.0.now, d.1, d.2)) result ≡ define_at text.now }
 {

@@ -2,7 +2,7 @@
 
 ghost use Rattle.std.specs.Prelude.{◌≡◌, ◌≤◌, IfOk, IfSome, length};
 ghost use Rattle.oc_lexer.specs.Literals.{escape_value, is_character_byte, is_text_byte};
-ghost use Rattle.oc_lexer.specs.Reading.{character_at, element_at, quoted};
+ghost use Rattle.oc_lexer.specs.Scanned.{character_at, element_at, quoted};
 
 use crate::bytes::byte_at;
 use oc_values::{Name, NoMemory};
@@ -37,7 +37,7 @@ fn is_character_byte(byte: u8) -> bool
 }
 
 /// The byte of the character literal that begins here, and how many bytes spell it.
-#[tactic(auto, unfolding(crate::specs::Reading::character_at))]
+#[tactic(auto, unfolding(crate::specs::Scanned::character_at))]
 pub fn character_at(text: &[u8]) -> Option<(u8, usize)>
     ensures value { result ≡ character_at text.now }
 {
@@ -54,7 +54,7 @@ pub fn character_at(text: &[u8]) -> Option<(u8, usize)>
 }
 
 /// The byte that stands first in a text, and how many bytes spell it.
-#[tactic(auto, unfolding(crate::specs::Reading::element_at))]
+#[tactic(auto, unfolding(crate::specs::Scanned::element_at))]
 fn element_at(text: &[u8]) -> Option<(u8, usize)>
     ensures value { result ≡ element_at text.now }
     ensures within { IfSome result (λ r. r.1 ≤ length text.now) }

@@ -4,7 +4,8 @@ ghost use Rattle.std.specs.Prelude.{◌≡◌, ◌≤◌, ◌^◌, MatchOption, 
 ghost use Rattle.std.specs.Map.{lookup};
 ghost use Rattle.std.specs.Str.{bytes_eq};
 ghost use Rattle.oc_source.specs.Literals.{holds};
-ghost use Rattle.oc_lexer.specs.Numbers.{base_of, digit_class, digit_value, digits_of, first_holding, form_of, kinds_of, literal_of, literal_with, prefix_length, suffix_of, suffix_text, value_of};
+ghost use Rattle.oc_lexer.specs.Numbers.{base_of, digit_class, digit_value, kinds_of, value_of};
+ghost use Rattle.oc_lexer.specs.ScannedNumbers.{digits_of, first_holding, form_of, literal_of, literal_with, prefix_length, suffix_of, suffix_text};
 
 use crate::bytes::{ByteClass, byte_at, split_run};
 use oc_source::Literal;
@@ -144,7 +145,7 @@ fn find_suffix(suffixes: &[(&[u8], Suffix)], text: &[u8]) -> Option<Suffix>
 }
 
 /// The suffix of a number, none where the text is no number.
-#[tactic(auto, unfolding(crate::specs::Numbers::suffix_of))]
+#[tactic(auto, unfolding(crate::specs::ScannedNumbers::suffix_of))]
 pub fn suffix_of(text: &[u8]) -> Option<Suffix>
     ensures { result ≡ suffix_of text.now }
 {
@@ -234,7 +235,7 @@ fn literal_with(form: Form, suffix: Suffix, value: u64) -> Option<Literal>
 }
 
 /// The literal that a text spells, none where it is no number or no kind holds it.
-#[tactic(auto, unfolding(crate::specs::Numbers::literal_of))]
+#[tactic(auto, unfolding(crate::specs::ScannedNumbers::literal_of))]
 pub fn literal_of(text: &[u8]) -> Option<Literal>
     ensures { result ≡ literal_of text.now }
 {

@@ -1,7 +1,7 @@
 //! The piece at the front of a text.
 
 ghost use Rattle.std.specs.Prelude.{◌≡◌, ◌<◌, IfOk, Some, length, option_map};
-ghost use Rattle.oc_lexer.specs.Reading.{piece_at, piece_by, piece_of};
+ghost use Rattle.oc_lexer.specs.Scanned.{piece_at, piece_by, piece_of};
 
 use crate::bytes::{ByteClass, split_run};
 use crate::comments::comment_length;

@@ -9,8 +9,8 @@ ghost use Rattle.oc_lexer.specs.Moving.{token_between};
 ghost use Rattle.oc_lexer.specs.Places.{spot_after};
 ghost use Rattle.oc_lexer.specs.Kinds.{kind_at};
 ghost use Rattle.oc_lexer.specs.Known.{filtered, get_at, known_after};
-ghost use Rattle.oc_lexer.specs.Reading.{piece_at, piece_of};
-ghost use Rattle.oc_lexer.specs.Sources.{Refuses, Spells, is_new_by, rule_of};
+ghost use Rattle.oc_lexer.specs.Scanned.{piece_at, piece_of, rule_of};
+ghost use Rattle.oc_lexer.specs.Sources.{HasNoTokens, Spells, is_new_by};
 
 use crate::bytes::{ByteClass, split_run};
 use crate::defines::{define, find, replaced};
@@ -64,7 +64,8 @@ fn next_piece<'s>(
     text: &'s [u8],
 ) -> Result<Option<(Piece<'s>, usize)>, NoMemory>
     requires { 0 < length text.now }
-    ensures { IfOk result (λ found. option_map (λ r. (piece_of r.0, r.1)) found ≡ filtered (get_at known.now) (piece_at is_fresh text.now)) }
+    ensures { IfOk result (λ found. option_map (λ r. (piece_of r.0, r.1)) found
+        ≡ filtered (get_at known.now) (piece_at is_fresh text.now)) }
 {
     let Some((piece, length)) = piece_at(alloc, is_fresh, text)? else {
         return Ok(None);
@@ -111,12 +112,13 @@ pub fn lex(alloc: Global, source: &[u8]) -> Result<Lexed, LexFault>
     ensures end { IfOk result (λ lexed. lexed.end ≡ spot_after source.now) }
     // No other tokens are the source's, and no rule refuses it.
     ensures only { IfOk result (λ lexed. (tokens : List Token) → Spells source.now tokens → tokens ≡ lexed.tokens) }
-    ensures accepted { IfOk result (λ lexed. (rule : LexRule) (spot : Spot) → Refuses source.now rule spot → ⊥) }
+    ensures accepted { IfOk result (λ lexed. (rule : LexRule) (spot : Spot) → HasNoTokens source.now rule spot → ⊥) }
 
     // The rule and the spot are those that refuse the source.
-    ensures refused { IfErr result (λ fault. IfRefused fault (λ rule spot. Refuses source.now rule spot)) }
+    ensures refused { IfErr result (λ fault. IfRefused fault (λ rule spot. HasNoTokens source.now rule spot)) }
     // No other rule or spot refuses it, and it has no tokens.
-    ensures only_refusal { IfErr result (λ fault. IfRefused fault (λ rule spot. (other : LexRule) (at : Spot) → Refuses source.now other at → (other ≡ rule) × (at ≡ spot))) }
+    ensures only_refusal { IfErr result (λ fault. IfRefused fault (λ rule spot.
+        (other : LexRule) (at : Spot) → HasNoTokens source.now other at → (other ≡ rule) × (at ≡ spot))) }
     ensures none { IfErr result (λ fault. IfRefused fault (λ rule spot. (tokens : List Token) → Spells source.now tokens → ⊥)) }
 {
     if source.len() > MAX_BYTES {

@@ -145,10 +145,14 @@ const NUMBERS_REFUSED: [(&[u8], &[u8]); 32] = [
 ];
 
 // Characters and texts.
-const LITERALS: [(&[u8], &[u8]); 22] = [
+const LITERALS: [(&[u8], &[u8]); 23] = [
     (
         b"'a' ' ' '~' '\"' '\\n' '\\t' '\\r' '\\0' '\\\\' '\\'' '\\\"'",
         b"character 97 0-3 1:1; character 32 4-7 1:5; character 126 8-11 1:9; character 34 12-15 1:13; character 10 16-20 1:17; character 9 21-25 1:22; character 13 26-30 1:27; character 0 31-35 1:32; character 92 36-40 1:37; character 39 41-45 1:42; character 34 46-50 1:47; end 1:51",
+    ),
+    (
+        b"\"\" \"a\" \"\\n\\t\\r\\0\\\\\\'\\\"\" \"\t\" \"\x7f\" \"'\" \"a\xe9\xffb\" \"// /* #\"",
+        b"text  0-2 1:1; text 61 3-6 1:4; text 0a090d005c2722 7-23 1:8; text 09 24-27 1:25; text 7f 28-31 1:29; text 27 32-35 1:33; text 61e9ff62 36-42 1:37; text 2f2f202f2a2023 43-52 1:44; end 1:53",
     ),
     (b"''", b"L1 1:1"),
     (b"'", b"L1 1:1"),
@@ -174,11 +178,7 @@ const LITERALS: [(&[u8], &[u8]); 22] = [
 ];
 
 // Comments, also across lines.
-const COMMENTS: [(&[u8], &[u8]); 19] = [
-    (
-        b"\"\" \"a\" \"\\n\\t\\r\\0\\\\\\'\\\"\" \"\t\" \"\x7f\" \"'\" \"a\xe9\xffb\" \"// /* #\"",
-        b"text  0-2 1:1; text 61 3-6 1:4; text 0a090d005c2722 7-23 1:8; text 09 24-27 1:25; text 7f 28-31 1:29; text 27 32-35 1:33; text 61e9ff62 36-42 1:37; text 2f2f202f2a2023 43-52 1:44; end 1:53",
-    ),
+const COMMENTS: [(&[u8], &[u8]); 18] = [
     (b"/**/a", b"name a 4-5 1:5; end 1:6"),
     (
         b"/* a */ b /* c\n d */ e",

@@ -2,7 +2,7 @@
 
 ghost use Rattle.std.specs.Prelude.{◌≡◌};
 ghost use Rattle.oc_lexer.specs.Words.{find_keyword, keyword_of, keyword_text, sign_text};
-ghost use Rattle.oc_lexer.specs.Reading.{find_sign, sign_at};
+ghost use Rattle.oc_lexer.specs.Scanned.{find_sign, sign_at};
 
 use crate::token::{Keyword, Sign};
 
@@ -202,7 +202,7 @@ fn find_sign(signs: &[Sign], text: &[u8]) -> Option<Sign>
 }
 
 /// The longest sign with which the text begins.
-#[tactic(auto, unfolding(crate::specs::Reading::sign_at))]
+#[tactic(auto, unfolding(crate::specs::Scanned::sign_at))]
 pub fn sign_at(text: &[u8]) -> Option<Sign>
     ensures { result ≡ sign_at text.now }
 {

@@ -6,7 +6,7 @@ use Rattle.oc_tree.specs.declared.program.Typed.{Typed}
 use Rattle.oc_lexer.specs.declared.token.LexRule.{LexRule}
 use Rattle.oc_lexer.specs.declared.token.Token.{Token}
 use Rattle.oc_lexer.specs.Faults.{IfRefused as IfUnlexed}
-use Rattle.oc_lexer.specs.Sources.{Spells, Refuses as HasNoTokens}
+use Rattle.oc_lexer.specs.Sources.{Spells, HasNoTokens}
 use Rattle.oc_grammar.specs.Headings.{Derives}
 use Rattle.oc_parser.specs.declared.faults.ParseRule.{ParseRule}
 use Rattle.oc_parser.specs.Load.{IsLight}

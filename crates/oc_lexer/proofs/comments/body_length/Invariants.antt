@@ -1,5 +1,5 @@
 use Rattle.std.proofs.Common.{◌≡◌, ◌-◌, length, drop}
-use Rattle.oc_lexer.specs.Reading.{body_length}
+use Rattle.oc_lexer.specs.Scanned.{body_length}
 use Rattle.oc_lexer.proofs.CommentEnds.{later}
 use Rattle.oc_lexer.proofs.comments.body_length.Given as goal
 

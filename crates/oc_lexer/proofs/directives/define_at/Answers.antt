@@ -3,7 +3,7 @@ use Rattle.std.specs.Prelude.{option_map}
 use Rattle.oc_lexer.specs.declared.bytes.ByteClass.TheVariants as class
 use Rattle.oc_lexer.specs.Bytes.{is_in, is_space, is_name_byte}
 use Rattle.oc_lexer.proofs.Runs.{after_within}
-use Rattle.oc_lexer.proofs.Parts.{define_fails, define_goes}
+use Rattle.oc_lexer.proofs.Cuts.{define_fails, define_goes}
 use Rattle.oc_lexer.proofs.directives.define_at.Goals as goal
 
 pub returns-then-not-is_definition : goal.returns-then-not-is_definition

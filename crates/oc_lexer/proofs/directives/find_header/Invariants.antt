@@ -1,5 +1,5 @@
 use Rattle.std.proofs.Common.{◌≡◌, drop, map}
-use Rattle.oc_lexer.specs.Reading.{find_header}
+use Rattle.oc_lexer.specs.Scanned.{find_header}
 use Rattle.oc_lexer.proofs.directives.find_header.Given as goal
 
 abbrev pub invariant-loop-header : goal.invariant-loop-header

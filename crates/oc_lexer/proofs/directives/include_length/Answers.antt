@@ -1,7 +1,7 @@
 use Rattle.std.proofs.Common.{Some, None, sym, ap, ◌∙◌, arith, length}
 use Rattle.oc_lexer.specs.Bytes.{is_space, after}
 use Rattle.oc_lexer.proofs.Runs.{after_within}
-use Rattle.oc_lexer.proofs.Parts.{include_with}
+use Rattle.oc_lexer.proofs.Cuts.{include_with}
 use Rattle.oc_lexer.proofs.directives.include_length.Goals as goal
 
 pub returns-in_err-length : goal.returns-in_err-length

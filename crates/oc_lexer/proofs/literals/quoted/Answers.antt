@@ -1,5 +1,5 @@
 use Rattle.std.proofs.Common.{◌≡◌, ◌+◌, Some, sym, ap, ◌∙◌, arith, ℕ, inl, inr}
-use Rattle.oc_lexer.specs.Reading.{onto, quoted}
+use Rattle.oc_lexer.specs.Scanned.{onto, quoted}
 use Rattle.oc_lexer.proofs.CommentEnds.{within_or_past}
 use Rattle.oc_lexer.proofs.Quotes.{read_none, read_more, read_end, onto_none}
 use Rattle.oc_lexer.proofs.literals.quoted.Goals as goal

@@ -1,5 +1,5 @@
 use Rattle.std.proofs.Common.{◌-◌, length}
-use Rattle.oc_lexer.specs.Reading.{quoted}
+use Rattle.oc_lexer.specs.Scanned.{quoted}
 use Rattle.oc_lexer.proofs.Quotes.{Read}
 use Rattle.oc_lexer.proofs.literals.quoted.Given as goal
 

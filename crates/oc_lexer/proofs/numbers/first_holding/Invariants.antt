@@ -1,5 +1,5 @@
 use Rattle.std.proofs.Common.{◌≡◌, drop}
-use Rattle.oc_lexer.specs.Numbers.{first_holding}
+use Rattle.oc_lexer.specs.ScannedNumbers.{first_holding}
 use Rattle.oc_lexer.proofs.numbers.first_holding.Given as goal
 
 abbrev pub invariant-loop-kind : goal.invariant-loop-kind

@@ -1,6 +1,6 @@
 use Rattle.std.proofs.Common.{sym, ap, ◌∙◌}
-use Rattle.oc_lexer.specs.Numbers.{first_holding, literal_of_kind}
-use Rattle.oc_lexer.proofs.Parts.{literal_holds, literal_is}
+use Rattle.oc_lexer.specs.ScannedNumbers.{first_holding, literal_of_kind}
+use Rattle.oc_lexer.proofs.Cuts.{literal_holds, literal_is}
 use Rattle.oc_lexer.proofs.numbers.literal_with.Goals as goal
 
 pub invariant_of-result : goal.invariant_of-result

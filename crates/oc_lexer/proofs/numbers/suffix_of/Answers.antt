@@ -1,5 +1,5 @@
 use Rattle.std.proofs.Common.{sym, ◌∙◌}
-use Rattle.oc_lexer.proofs.Parts.{suffix_with}
+use Rattle.oc_lexer.proofs.Cuts.{suffix_with}
 use Rattle.oc_lexer.proofs.numbers.suffix_of.Goals as goal
 
 pub returns-else-is_empty : goal.returns-else-is_empty

@@ -1,7 +1,7 @@
 use Rattle.std.proofs.Common.{◌≡◌, ◌≤◌, ◌*◌, ◌+◌, get_or, sym, ap, subst, arith, Option, None}
 use Rattle.std.specs.Prelude.{MatchOption, ℕ}
 use Rattle.oc_lexer.specs.Numbers.{base_of, digit_value}
-use Rattle.oc_lexer.proofs.Parts.{value_over}
+use Rattle.oc_lexer.proofs.Cuts.{value_over}
 use Rattle.oc_lexer.proofs.numbers.value_of.Goals as goal
 
 over : (o : Option ℕ) (limit total : ℕ) → o ≡ None → limit ≤ total → MatchOption o (limit ≤ total) (λ v. v ≡ total)

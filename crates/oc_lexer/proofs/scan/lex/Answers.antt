@@ -1,7 +1,7 @@
 use Rattle.std.proofs.Common.{ℕ, Option, arith, sym, ap, ◌∙◌}
 use Rattle.std.specs.Prelude.{option_map}
 use Rattle.oc_lexer.specs.declared.pieces.Piece.{Piece as ReadPiece}
-use Rattle.oc_lexer.specs.Reading.{piece_of}
+use Rattle.oc_lexer.specs.Scanned.{piece_of}
 use Rattle.oc_lexer.specs.Pieces.{Piece}
 use Rattle.oc_lexer.proofs.Walks.{walked_start, walked_more, walked_within, walked_tokens, walked_end, walked_only, walked_accepted, walked_refused, walked_only_refusal, walked_none, fronts, filtered_some, not_empty, is_nil}
 use Rattle.oc_lexer.proofs.scan.lex.Goals as goal

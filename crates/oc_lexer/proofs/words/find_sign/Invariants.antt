@@ -1,5 +1,5 @@
 use Rattle.std.proofs.Common.{◌≡◌, drop}
-use Rattle.oc_lexer.specs.Reading.{find_sign}
+use Rattle.oc_lexer.specs.Scanned.{find_sign}
 use Rattle.oc_lexer.proofs.words.find_sign.Given as goal
 
 abbrev pub invariant-loop-sign : goal.invariant-loop-sign

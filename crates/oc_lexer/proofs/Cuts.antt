@@ -15,9 +15,10 @@ use Rattle.oc_lexer.specs.declared.bytes.ByteClass.TheVariants as class
 use Rattle.oc_lexer.specs.declared.numbers.Form.{Form}
 use Rattle.oc_lexer.specs.declared.numbers.Form.TheVariants.{Decimal, Octal, Hexadecimal}
 use Rattle.oc_lexer.specs.declared.numbers.Suffix.{Suffix}
-use Rattle.oc_lexer.specs.Bytes.{is_in, is_space, is_name_byte, run, after}
-use Rattle.oc_lexer.specs.Numbers.{base_of, digit_value, digits_of, suffix_text, suffixes, suffix_of, is_empty, kinds_of, first_holding, literal, literal_where, literal_of}
-use Rattle.oc_lexer.specs.Reading.{included, include_length, header_at, is_definition, defined_as, define_number, define_second, define_name, define_after, define_at}
+use Rattle.oc_lexer.specs.Bytes.{is_in, is_space, is_name_byte, is_empty, run, after}
+use Rattle.oc_lexer.specs.Numbers.{base_of, digit_value, kinds_of}
+use Rattle.oc_lexer.specs.ScannedNumbers.{digits_of, suffix_text, suffixes, suffix_of, first_holding, literal, literal_where, literal_of}
+use Rattle.oc_lexer.specs.Scanned.{included, include_length, header_at, is_definition, defined_as, define_number, define_second, define_name, define_after, define_at}
 
 -- ---- directives
 

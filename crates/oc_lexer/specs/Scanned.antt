@@ -5,15 +5,18 @@ use Rattle.oc_source.specs.declared.literal.Literal.{Literal}
 use Rattle.oc_lexer.specs.declared.bytes.ByteClass.TheVariants as class
 use Rattle.oc_lexer.specs.declared.kinds.Kind.{Kind}
 use Rattle.oc_lexer.specs.declared.kinds.Kind.TheVariants as k
+use Rattle.oc_lexer.specs.declared.numbers.Suffix.{Suffix}
+use Rattle.oc_lexer.specs.declared.token.LexRule.{LexRule}
+use Rattle.oc_lexer.specs.declared.token.LexRule.TheVariants.{L1, L2, L3, L4, L5}
 use Rattle.oc_lexer.specs.declared.token.Sign.{Sign}
 use Rattle.oc_lexer.specs.declared.token.TokenKind.TheVariants as t
 use Rattle.oc_lexer.specs.declared.pieces.Piece.{Piece as ReadPiece}
 use Rattle.oc_lexer.specs.declared.pieces.Piece.TheVariants as read
-use Rattle.oc_lexer.specs.Bytes.{is_in, is_space, is_name_start, is_name_byte, begins_with, run, after}
+use Rattle.oc_lexer.specs.Bytes.{is_in, is_space, is_name_start, is_name_byte, is_empty, begins_with, run, after}
 use Rattle.oc_lexer.specs.Kinds.{kind_at}
 use Rattle.oc_lexer.specs.Comments.{ends_line}
 use Rattle.oc_lexer.specs.Words.{keyword_of, word_kind, sign_text, signs}
-use Rattle.oc_lexer.specs.Numbers.{literal_of, is_empty}
+use Rattle.oc_lexer.specs.ScannedNumbers.{literal_of, suffix_of}
 use Rattle.oc_lexer.specs.Literals.{escape_value, is_text_byte, is_character_byte}
 use Rattle.oc_lexer.specs.Directives.{headers}
 use Rattle.oc_lexer.specs.Pieces.{Piece, Blank, Comment, Include, Define, Lexeme}
@@ -61,7 +64,10 @@ character_at text =
 -- the byte that stands first in a text, and how many bytes spell it
 unfoldable pub element_at : List ℕ → Option (ℕ × ℕ)
 element_at [] = None
-element_at (b ∷ more) = if nat_eq b 92 then option_map (λ v. (v, 2)) (escape_value (get_or more 0 0)) else if is_text_byte b then Some (b, 1) else None
+element_at (b ∷ more) =
+    if nat_eq b 92 then option_map (λ v. (v, 2)) (escape_value (get_or more 0 0))
+    else if is_text_byte b then Some (b, 1)
+    else None
 
 -- what was read of a text, with bytes before it that n bytes spell
 abbrev pub onto : List ℕ → ℕ → Option (List ℕ × ℕ) → Option (List ℕ × ℕ)
@@ -118,7 +124,8 @@ is_definition gap name second rest = not (is_empty gap) && not (is_empty second)
 -- the name, the literal and the number of bytes of a `#define` of these parts
 abbrev pub defined_as : List ℕ → List ℕ → List ℕ → List ℕ → List ℕ → List ℕ → Option (List ℕ × Literal × ℕ)
 defined_as text gap name second number rest =
-    if is_definition gap name second rest then option_map (λ literal. (name, literal, length text - length rest)) (literal_of number) else None
+    if is_definition gap name second rest then option_map (λ literal. (name, literal, length text - length rest)) (literal_of number)
+    else None
 
 -- the same, where the number is what comes next
 abbrev pub define_number : List ℕ → List ℕ → List ℕ → List ℕ → List ℕ → Option (List ℕ × Literal × ℕ)
@@ -170,7 +177,8 @@ piece_by k.Blank text = Some (Blank, 1)
 piece_by k.LineComment text = Some (Comment, length (run (is_in class.Line) text))
 piece_by k.BlockComment text = option_map (λ n. (Comment, n)) (comment_length text)
 piece_by k.Directive text = directive_of (include_length text) text
-piece_by k.Word text = Some (Lexeme (word_kind (keyword_of (run is_name_byte text)) (run is_name_byte text)), length (run is_name_byte text))
+piece_by k.Word text =
+    Some (Lexeme (word_kind (keyword_of (run is_name_byte text)) (run is_name_byte text)), length (run is_name_byte text))
 piece_by k.Number text = lexeme_of_length (length (run (is_in class.Number) text)) (literal_of (run (is_in class.Number) text))
 piece_by k.Character text = option_map (λ c. (Lexeme (t.Character c.0), c.1)) (character_at text)
 piece_by k.Text text = option_map (λ c. (Lexeme (t.Text c.0), c.1 + 1)) (quoted (drop 1 text))
@@ -179,3 +187,22 @@ piece_by k.Sign text = option_map (λ s. (Lexeme (t.Sign s), length (sign_text s
 -- the piece at the front of a text and its length; the flag says if only blanks stand before it on its line
 abbrev pub piece_at : Bool → List ℕ → Option (Piece × ℕ)
 piece_at is_fresh text = piece_by (kind_at is_fresh text) text
+
+-- ---- refusals
+
+-- the rule that a run of bytes breaks which is no literal, by the suffix that was read of it
+abbrev pub number_rule : Option Suffix → LexRule
+number_rule None = L3
+number_rule (Some suffix) = L4
+
+-- the rule that a text breaks which begins so and spells nothing
+abbrev pub rule_of : Kind → List ℕ → LexRule
+rule_of k.Blank text = L1
+rule_of k.Word text = L1
+rule_of k.Character text = L1
+rule_of k.Text text = L1
+rule_of k.Sign text = L1
+rule_of k.LineComment text = L1
+rule_of k.BlockComment text = L2
+rule_of k.Number text = number_rule (suffix_of (run (is_in class.Number) text))
+rule_of k.Directive text = L5
