@@ -10,7 +10,7 @@ use Rattle.oc_lexer.specs.Sources.{Spells, HasNoTokens}
 use Rattle.oc_grammar.specs.Headings.{Derives}
 use Rattle.oc_parser.specs.declared.ParseRule.{ParseRule}
 use Rattle.oc_parser.specs.Load.{IsLight}
-use Rattle.oc_parser.specs.Refusals.{Refuses as HasNoTree}
+use Rattle.oc_parser.specs.Refusals.{HasNoTree}
 use Rattle.oc_parser.specs.Trees.{IsTree}
 use Rattle.first_form.specs.First.{First}
 use Rattle.oblivc_main.specs.declared.stop.Rule.{Rule}

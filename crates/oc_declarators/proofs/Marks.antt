@@ -15,13 +15,13 @@ use Rattle.oc_grammar.specs.Tokens.{Is, spot_at}
 use Rattle.oc_grammar.specs.Tables.{opening}
 use Rattle.oc_source.specs.Parsed.{int_base}
 use Rattle.oc_grammar.specs.Trees.{struct_base}
-use Rattle.oc_grammar.specs.Reading.{Found, Refused, Leaves, Any, End, ended, Then, then, By, first}
+use Rattle.oc_grammar.specs.Parsing.{Found, Refused, Leaves, Any, End, ended, Then, then, By, first}
 use Rattle.oc_grammar.specs.Calls.{ANamed, a_named}
 use Rattle.oc_grammar.specs.WrittenTypes.{Ints, Base, plain_int, obliv_int, frozen_int, frozen_obliv, obliv_frozen, a_struct, frozen_struct}
-use Rattle.oc_grammar.proofs.Reading.{start, turned, read, fails, ends, Goes, Closes, close_end, after_end, then_end, sure}
+use Rattle.oc_grammar.proofs.Parsing.{start, turned, read, fails, ends, Goes, Closes, close_end, after_end, then_end, sure}
 use Rattle.oc_grammar.proofs.Calls.{made, is_made}
 use Rattle.oc_grammar.proofs.Views.{OpeningView, opening_view, is_frozen, is_obliv, is_struct, is_bool, is_underscore_bool, is_signed, is_unsigned, is_char, is_short, is_int, is_long, is_other}
-use Rattle.oc_declarators.specs.Forms.{BeforeNoWord, int_after, marked, named_struct, after_obliv, after_frozen, base_after}
+use Rattle.oc_declarators.specs.Continuations.{BeforeNoWord, int_after, marked, named_struct, after_obliv, after_frozen, base_after}
 use Rattle.oc_declarators.proofs.Words.{ints_out, ints_in}
 
 -- ---- the marks and the words

@@ -12,12 +12,12 @@ use Rattle.oc_grammar.specs.declared.taking.Named.{Named}
 use Rattle.oc_grammar.specs.Tokens.{Is, Starts, NotNext}
 use Rattle.oc_source.specs.Parsed.{field}
 use Rattle.oc_grammar.specs.Trees.{type_name}
-use Rattle.oc_grammar.specs.Reading.{SameNext, Found, Refused, Leaves, Any, End, ended, Then, then, Loop, at_last, turn}
+use Rattle.oc_grammar.specs.Parsing.{SameNext, Found, Refused, Leaves, Any, End, ended, Then, then, Loop, at_last, turn}
 use Rattle.oc_grammar.specs.Calls.{One, one, ANamed, a_named}
 use Rattle.oc_grammar.specs.WrittenTypes.{Base, Stars, no_star, star, Dims, no_dim, dim, Declr, declr, type_named}
-use Rattle.oc_grammar.proofs.Reading.{start, turned, read, fails, ends, stuck, Goes, Closes, close_end, close_then, after_end, after_then, then_end, sure, loop_on, loop_done}
+use Rattle.oc_grammar.proofs.Parsing.{start, turned, read, fails, ends, stuck, Goes, Closes, close_end, close_then, after_end, after_then, then_end, sure, loop_on, loop_done}
 use Rattle.oc_grammar.proofs.Calls.{made, is_made, not_next, close_one, after_one}
-use Rattle.oc_declarators.specs.Forms.{NoWord, BeforeNoWord, NoStar, NoBracket, ALength, a_length, dim_rest, closed_type}
+use Rattle.oc_declarators.specs.Continuations.{NoWord, BeforeNoWord, NoStar, NoBracket, ALength, a_length, dim_rest, closed_type}
 use Rattle.oc_declarators.proofs.Marks.{base_in, some_base}
 
 -- ---- stars

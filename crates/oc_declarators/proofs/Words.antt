@@ -12,13 +12,13 @@ use Rattle.oc_grammar.specs.declared.tables.Width.TheVariants as width
 use Rattle.oc_grammar.specs.declared.tables.Opening.{Opening}
 use Rattle.oc_grammar.specs.declared.tables.Opening.TheVariants as o
 use Rattle.oc_grammar.specs.Tokens.{Starts, NotNext}
-use Rattle.oc_grammar.specs.Tables.{opening, kind_of}
-use Rattle.oc_grammar.specs.Reading.{SameNext, Found, Refused, Leaves, End, ended, Then, then, By, first, stays, goes}
+use Rattle.oc_grammar.specs.Tables.{opening, int_kind}
+use Rattle.oc_grammar.specs.Parsing.{SameNext, Found, Refused, Leaves, End, ended, Then, then, By, first, stays, goes}
 use Rattle.oc_grammar.specs.WrittenTypes.{Optional, absent, present, Core, char, short, int, long, Ints, bool, underscore_bool, plain, signed, unsigned, signed_alone, unsigned_alone}
-use Rattle.oc_grammar.proofs.Reading.{no_token, same_token, start, turned, read, ends, stuck_by, token, token_on, alone, through, Closes, close_end, close_then, after_end, then_end, maybe_of_by}
+use Rattle.oc_grammar.proofs.Parsing.{no_token, same_token, start, turned, read, ends, stuck_by, token, token_on, alone, through, Closes, close_end, close_then, after_end, then_end, maybe_of_by}
 use Rattle.oc_grammar.proofs.Calls.{not_next, made, is_made}
 use Rattle.oc_grammar.proofs.Views.{OpeningView, opening_view, is_frozen, is_obliv, is_struct, is_bool, is_underscore_bool, is_signed, is_unsigned, is_char, is_short, is_int, is_long, is_other}
-use Rattle.oc_declarators.specs.Forms.{NoWord, BeforeNoWord, NotWord, tail, named_after, int_after}
+use Rattle.oc_declarators.specs.Continuations.{NoWord, BeforeNoWord, NotWord, tail, width_after, int_after}
 
 pub optional_found : {word : Word} (ts rest : List Token) → Starts (Keyword word) ts rest → Found (Optional word) (NotWord word) ts tt rest
 optional_found {word} ts rest s = record {
@@ -50,19 +50,19 @@ no_word word (t ∷ zs) h = h word
 
 -- ---- after the word that the type is named after
 
-pub tail_char : (u : Bool) (ts : List Token) → Found (tail u width.Char) BeforeNoWord ts (kind_of u width.Char) ts
+pub tail_char : (u : Bool) (ts : List Token) → Found (tail u width.Char) BeforeNoWord ts (int_kind u width.Char) ts
 tail_char u ts = ends (start (tail u width.Char) BeforeNoWord ts)
 
-pub tail_int : (u : Bool) (ts : List Token) → Found (tail u width.Int) BeforeNoWord ts (kind_of u width.Int) ts
+pub tail_int : (u : Bool) (ts : List Token) → Found (tail u width.Int) BeforeNoWord ts (int_kind u width.Int) ts
 tail_int u ts = ends (start (tail u width.Int) BeforeNoWord ts)
 
-pub tail_short : (u : Bool) (ts rest : List Token) → Found (Optional w.Int) (NotWord w.Int) ts tt rest → Found (tail u width.Short) BeforeNoWord ts (kind_of u width.Short) rest
-tail_short u ts rest f = ends (read (start (tail u width.Short) BeforeNoWord ts) f (after_end (λ _. kind_of u width.Short) (λ b zs s. no_word w.Int zs s)))
+pub tail_short : (u : Bool) (ts rest : List Token) → Found (Optional w.Int) (NotWord w.Int) ts tt rest → Found (tail u width.Short) BeforeNoWord ts (int_kind u width.Short) rest
+tail_short u ts rest f = ends (read (start (tail u width.Short) BeforeNoWord ts) f (after_end (λ _. int_kind u width.Short) (λ b zs s. no_word w.Int zs s)))
 
-pub tail_long : (u : Bool) (ts mid rest : List Token) → Found (Optional w.Long) (NotWord w.Long) ts tt mid → Found (Optional w.Int) (NotWord w.Int) mid tt rest → Found (tail u width.Long) BeforeNoWord ts (kind_of u width.Long) rest
-tail_long u ts mid rest f g = ends (read (read (start (tail u width.Long) BeforeNoWord ts) f (record { follow = follow; closes = λ b. close_then tt [] absent close_end })) g (after_end (λ _. kind_of u width.Long) (λ b zs s. no_word w.Int zs s)))
+pub tail_long : (u : Bool) (ts mid rest : List Token) → Found (Optional w.Long) (NotWord w.Long) ts tt mid → Found (Optional w.Int) (NotWord w.Int) mid tt rest → Found (tail u width.Long) BeforeNoWord ts (int_kind u width.Long) rest
+tail_long u ts mid rest f g = ends (read (read (start (tail u width.Long) BeforeNoWord ts) f (record { follow = follow; closes = λ b. close_then tt [] absent close_end })) g (after_end (λ _. int_kind u width.Long) (λ b zs s. no_word w.Int zs s)))
   where
-    follow : (b : Unit {0}) (v : IntKind) (ys zs : List Token) → Then (Optional w.Int) (λ _. End (kind_of u width.Long)) v ys → BeforeNoWord v zs → NotNext (Keyword w.Long) (ys ++ zs)
+    follow : (b : Unit {0}) (v : IntKind) (ys zs : List Token) → Then (Optional w.Int) (λ _. End (int_kind u width.Long)) v ys → BeforeNoWord v zs → NotNext (Keyword w.Long) (ys ++ zs)
     follow b v _ zs (then absent ended) s = no_word w.Long zs s
     follow b v _ zs (then (present i) ended) s = λ j. let h = i.kind in let g = j.kind in cc
 
@@ -82,7 +82,7 @@ named_word is_signed e = cc
 named_word is_unsigned e = cc
 named_word is_other e = cc
 
-named_by : (u : Bool) (op : Opening) (v : IntKind) (ys : List Token) → named_after u op v ys → (c : Width) × (op ≡ o.Named c)
+named_by : (u : Bool) (op : Opening) (v : IntKind) (ys : List Token) → width_after u op v ys → (c : Width) × (op ≡ o.Named c)
 named_by u (o.Named c) v ys q = (c, refl)
 named_by u o.Frozen v ys q = absurd q
 named_by u o.Obliv v ys q = absurd q
@@ -95,21 +95,21 @@ module _ (u : Bool) (ts : List Token) where
   pub sign_on : {c : Width} {t : Token} {rest rest' : List Token} {k : IntKind} → ts ≡ t ∷ rest → opening t.kind ≡ o.Named c → Found (tail u c) BeforeNoWord rest k rest' → Found (int_after (o.Signs u)) BeforeNoWord ts k rest'
   sign_on {c} {t} {rest} is e f = through (token_on (start (int_after (o.Signs u)) BeforeNoWord ts) is (λ zs s. let (word, k) = named_word (opening_view t.kind) e in s word (record { kind = k }))) (rw e f)
 
-  pub sign_other : {t : Token} {rest : List Token} → ts ≡ t ∷ rest → ((c : Width) → opening t.kind ≡ o.Named c → ⊥) → Found (int_after (o.Signs u)) BeforeNoWord ts (kind_of u width.Int) ts
+  pub sign_other : {t : Token} {rest : List Token} → ts ≡ t ∷ rest → ((c : Width) → opening t.kind ≡ o.Named c → ⊥) → Found (int_after (o.Signs u)) BeforeNoWord ts (int_kind u width.Int) ts
   sign_other {t} {rest} is out = alone (start (int_after (o.Signs u)) BeforeNoWord ts) (λ t' us v ys a q. let e = same_token t t' ts rest us is a in let (c, g) = named_by u (opening t'.kind) v ys q in out c (ap (λ (t : Token). opening t.kind) (sym e) ∙ g))
 
-  pub sign_end : ts ≡ [] → Found (int_after (o.Signs u)) BeforeNoWord ts (kind_of u width.Int) ts
+  pub sign_end : ts ≡ [] → Found (int_after (o.Signs u)) BeforeNoWord ts (int_kind u width.Int) ts
   sign_end is = alone (start (int_after (o.Signs u)) BeforeNoWord ts) (λ t' us v ys a q. no_token t' ts us is a)
 
 -- ---- integer types
 
-core_out : (u : Bool) {c : Width} {x : List Token} → Core c x → By (λ t. named_after u (opening t.kind)) (kind_of u c) x
+core_out : (u : Bool) {c : Width} {x : List Token} → Core c x → By (λ t. width_after u (opening t.kind)) (int_kind u c) x
 core_out u (char i) = first (rw i.kind ended)
-core_out u (short {x = x} i p) = first (rw i.kind (then_end (λ _. kind_of u width.Short) tt x p))
+core_out u (short {x = x} i p) = first (rw i.kind (then_end (λ _. int_kind u width.Short) tt x p))
 core_out u (int i) = first (rw i.kind ended)
-core_out u (long {y = y} i p q) = first (rw i.kind (then p (then_end (λ _. kind_of u width.Long) tt y q)))
+core_out u (long {y = y} i p q) = first (rw i.kind (then p (then_end (λ _. int_kind u width.Long) tt y q)))
 
-core_in : (u : Bool) {t : Token} {k : TokenKind} {op : Opening} {v : IntKind} {ys : List Token} → OpeningView k op → t.kind ≡ k → named_after u op v ys → (c : Width) × (v ≡ kind_of u c) × Core c (t ∷ ys)
+core_in : (u : Bool) {t : Token} {k : TokenKind} {op : Opening} {v : IntKind} {ys : List Token} → OpeningView k op → t.kind ≡ k → width_after u op v ys → (c : Width) × (v ≡ int_kind u c) × Core c (t ∷ ys)
 core_in u is_char e ended = (width.Char, refl, char (record { kind = e }))
 core_in u is_short e (then p ended) = (width.Short, refl, rw append-nil (short (record { kind = e }) p))
 core_in u is_int e ended = (width.Int, refl, int (record { kind = e }))
@@ -123,7 +123,7 @@ core_in u is_signed e q = absurd q
 core_in u is_unsigned e q = absurd q
 core_in u is_other e q = absurd q
 
-plain_after : (op : Opening) (v : IntKind) (ys : List Token) → named_after false op v ys → int_after op v ys
+plain_after : (op : Opening) (v : IntKind) (ys : List Token) → width_after false op v ys → int_after op v ys
 plain_after (o.Named c) v ys q = q
 plain_after o.Frozen v ys q = absurd q
 plain_after o.Obliv v ys q = absurd q
@@ -132,7 +132,7 @@ plain_after o.Bool v ys q = absurd q
 plain_after (o.Signs b) v ys q = absurd q
 plain_after o.Other v ys q = absurd q
 
-plain_out : {v : IntKind} {x : List Token} → By (λ t. named_after false (opening t.kind)) v x → By (λ t. int_after (opening t.kind)) v x
+plain_out : {v : IntKind} {x : List Token} → By (λ t. width_after false (opening t.kind)) v x → By (λ t. int_after (opening t.kind)) v x
 plain_out (first {t} q) = first (plain_after (opening t.kind) _ _ q)
 
 pub ints_out : (v : IntKind) (x : List Token) → Ints v x → By (λ t. int_after (opening t.kind)) v x

@@ -3,11 +3,11 @@
 ghost use Rattle.std.specs.Prelude.{◌≡◌, ◌<◌, List, length, MatchOption, IfOk};
 ghost use Rattle.oc_source.specs.declared.parsed.BaseName.{BaseName};
 ghost use Rattle.oc_lexer.specs.declared.token.Token.{Token};
-ghost use Rattle.oc_grammar.specs.Reading.{Found, By};
+ghost use Rattle.oc_grammar.specs.Parsing.{Found, By};
 ghost use Rattle.oc_grammar.specs.Calls.{Reads};
 ghost use Rattle.oc_grammar.specs.Tables.{opening};
 ghost use Rattle.oc_grammar.specs.WrittenTypes.{Base};
-ghost use Rattle.oc_declarators.specs.Forms.{BeforeNoWord, marked, named_struct, after_obliv, after_frozen};
+ghost use Rattle.oc_declarators.specs.Continuations.{BeforeNoWord, marked, named_struct, after_obliv, after_frozen};
 
 use crate::integers::{int_after, ints};
 use oc_grammar::ParseError;
@@ -16,7 +16,6 @@ use oc_grammar::taking::{name, next};
 use oc_lexer::Token;
 use oc_source::Spot;
 use oc_source::parsed::{BaseKind, BaseName};
-use std::alloc::Global;
 
 // Passes the words after the first one of an integer type with marks; `None` where none begins with it.
 fn marked(
@@ -39,16 +38,15 @@ fn marked(
 }
 
 // Reads the name after `struct`.
-fn named_struct<'t>(
-    alloc: Global,
-    tokens: &'t [Token],
+fn named_struct(
+    tokens: &[Token],
     spot: Spot,
     frozen: bool,
-) -> Result<(BaseName, &'t [Token]), ParseError<'t>>
+) -> Result<(BaseName, &[Token]), ParseError<'_>>
     ensures reads { Reads (named_struct spot frozen) BeforeNoWord tokens.now result }
     ensures shorter { IfOk result (λ found. length found.1.now < length tokens.now) }
 {
-    let (named, rest) = name(alloc, tokens)?;
+    let (named, rest) = name(tokens)?;
     let base = BaseName {
         spot,
         frozen,
@@ -85,11 +83,7 @@ pub fn after_obliv(tokens: &[Token], spot: Spot) -> Result<(BaseName, &[Token]),
 }
 
 // Reads what comes after the `frozen` at the spot.
-fn after_frozen<'t>(
-    alloc: Global,
-    tokens: &'t [Token],
-    spot: Spot,
-) -> Result<(BaseName, &'t [Token]), ParseError<'t>>
+fn after_frozen(tokens: &[Token], spot: Spot) -> Result<(BaseName, &[Token]), ParseError<'_>>
     ensures reads { Reads (By (λ t. after_frozen spot (opening t.kind))) BeforeNoWord tokens.now result }
     ensures shorter { IfOk result (λ found. length found.1.now < length tokens.now) }
 {
@@ -107,7 +101,7 @@ fn after_frozen<'t>(
             };
             Ok((base, rest))
         }
-        Opening::Struct => named_struct(alloc, rest, spot, true),
+        Opening::Struct => named_struct(rest, spot, true),
         first => match marked(rest, first, spot, true, false) {
             Some((base, rest)) => Ok((base, rest)),
             None => Err(ParseError::Unexpected(tokens)),
@@ -116,10 +110,7 @@ fn after_frozen<'t>(
 }
 
 /// Reads what a written type begins with.
-pub fn base<'t>(
-    alloc: Global,
-    tokens: &'t [Token],
-) -> Result<(BaseName, &'t [Token]), ParseError<'t>>
+pub fn base(tokens: &[Token]) -> Result<(BaseName, &[Token]), ParseError<'_>>
     ensures reads { Reads Base BeforeNoWord tokens.now result }
     ensures shorter { IfOk result (λ found. length found.1.now < length tokens.now) }
 {
@@ -127,9 +118,9 @@ pub fn base<'t>(
         return Err(ParseError::Unexpected(tokens));
     };
     match opening_of(&token.kind) {
-        Opening::Frozen => after_frozen(alloc, rest, token.spot),
+        Opening::Frozen => after_frozen(rest, token.spot),
         Opening::Obliv => after_obliv(rest, token.spot),
-        Opening::Struct => named_struct(alloc, rest, token.spot, false),
+        Opening::Struct => named_struct(rest, token.spot, false),
         first => match marked(rest, first, token.spot, false, false) {
             Some((base, rest)) => Ok((base, rest)),
             None => Err(ParseError::Unexpected(tokens)),

@@ -1,10 +1,10 @@
 //! Names with their pointers and lengths.
 
 ghost use Rattle.std.specs.Prelude.{◌≡◌, ◌<◌, ◌≤◌, [], length, IfOk};
-ghost use Rattle.oc_grammar.specs.Reading.{Any};
+ghost use Rattle.oc_grammar.specs.Parsing.{Any};
 ghost use Rattle.oc_grammar.specs.Calls.{Reads};
 ghost use Rattle.oc_grammar.specs.WrittenTypes.{Stars, Dims, Declr};
-ghost use Rattle.oc_declarators.specs.Forms.{NoStar, NoBracket, dim_rest, closed_type};
+ghost use Rattle.oc_declarators.specs.Continuations.{NoStar, NoBracket, dim_rest, closed_type};
 
 use crate::bases::base;
 use oc_grammar::ParseError;
@@ -98,7 +98,7 @@ pub fn declr<'t>(
     ensures shorter { IfOk result (λ found. length found.1.now < length tokens.now) }
 {
     let (stars, rest) = stars(tokens)?;
-    let (named, rest) = name(alloc, rest)?;
+    let (named, rest) = name(rest)?;
     let (dims, rest) = dims(alloc, rest)?;
     let field = FieldDef {
         spot: named.spot,
@@ -111,14 +111,11 @@ pub fn declr<'t>(
 }
 
 /// Reads a type and a closing parenthesis.
-pub fn closed_type<'t>(
-    alloc: Global,
-    tokens: &'t [Token],
-) -> Result<(TypeName, &'t [Token]), ParseError<'t>>
+pub fn closed_type(tokens: &[Token]) -> Result<(TypeName, &[Token]), ParseError<'_>>
     ensures reads { Reads closed_type Any tokens.now result }
     ensures shorter { IfOk result (λ found. length found.1.now < length tokens.now) }
 {
-    let (base, rest) = base(alloc, tokens)?;
+    let (base, rest) = base(tokens)?;
     let (stars, rest) = stars(rest)?;
     let rest = expect(rest, Sign::RightParen)?;
     Ok((TypeName { base, stars }, rest))

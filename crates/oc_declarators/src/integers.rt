@@ -3,10 +3,10 @@
 ghost use Rattle.std.specs.Prelude.{◌≡◌, ℕ, ◌<◌, ◌≤◌, List, length, MatchOption, IfOk};
 ghost use Rattle.oc_values.specs.declared.integers.IntKind.{IntKind};
 ghost use Rattle.oc_lexer.specs.declared.token.Token.{Token};
-ghost use Rattle.oc_grammar.specs.Reading.{Found};
+ghost use Rattle.oc_grammar.specs.Parsing.{Found};
 ghost use Rattle.oc_grammar.specs.Calls.{Reads};
 ghost use Rattle.oc_grammar.specs.WrittenTypes.{Optional, Ints};
-ghost use Rattle.oc_declarators.specs.Forms.{BeforeNoWord, NotWord, tail, int_after};
+ghost use Rattle.oc_declarators.specs.Continuations.{BeforeNoWord, NotWord, tail, int_after};
 
 use oc_grammar::ParseError;
 use oc_grammar::tables::{Opening, Width, int_kind, opening_of};

@@ -11,12 +11,12 @@ use Rattle.oc_lexer.specs.declared.token.Sign.TheVariants as s
 use Rattle.oc_grammar.specs.Tokens.{Starts, NotNext, SignStarts, NoSign, spot_at}
 use Rattle.oc_grammar.specs.Tables.{assignment, strength}
 use Rattle.oc_source.specs.Parsed.{expr}
-use Rattle.oc_grammar.specs.Reading.{SameNext, Found, Refused, Leaves, Any, End, ended, Then, then, Maybe, stays, goes}
+use Rattle.oc_grammar.specs.Parsing.{SameNext, Found, Refused, Leaves, Any, End, ended, Then, then, Maybe, stays, goes}
 use Rattle.oc_grammar.specs.Calls.{One, one, Placed, placed}
-use Rattle.oc_grammar.specs.Expressions.{Expression, Before, before, assign, choose, operation, at, Stops, Ends}
-use Rattle.oc_grammar.proofs.Reading.{start, turned, read, fails, ends, token_on, alone, Goes, sure, Closes, close_end, close_then, after_end, then_end, end_is}
+use Rattle.oc_grammar.specs.Expressions.{Expression, Before, before, assign, choose, operation, at, BindsWeaker, Ends}
+use Rattle.oc_grammar.proofs.Parsing.{start, turned, read, fails, ends, token_on, alone, Goes, sure, Closes, close_end, close_then, after_end, then_end, end_is}
 use Rattle.oc_grammar.proofs.Calls.{not_next, no_sign, after_one, placed_found, placed_refused}
-use Rattle.oc_expressions.specs.Parts.{AssignBy, assign_by, ChooseBy, choose_by}
+use Rattle.oc_expressions.specs.Continuations.{AssignBy, assign_by, ChooseBy, choose_by}
 use Rattle.oc_expressions.proofs.Levels.{lower, operator_level, assignment_level, filled, stops_less, stops_kind, goes_kind, same_said, some_expr}
 
 -- a form alone, where more could stand after it
@@ -39,7 +39,7 @@ expr_out v _ (at (assign {op = op} {l = l} {r = r} {x = x} {y = y} d i h dr) g) 
 expr_out v x (at (operation {sign = sign} d i h r) g) = stay v x (at (operation d i h r) (omega (arith, operator_level sign _ _ h)))
 expr_out v x (at d g) = stay v x (at d (omega arith))
 
-assign_follow : (b : Spot × Expr) (v : Expr) (ys zs : List Token) → Maybe (AssignBy b.0 b.1) b.1 v ys → Stops 1 zs → Stops 2 (ys ++ zs)
+assign_follow : (b : Spot × Expr) (v : Expr) (ys zs : List Token) → Maybe (AssignBy b.0 b.1) b.1 v ys → BindsWeaker 1 zs → BindsWeaker 2 (ys ++ zs)
 assign_follow b v _ zs stays s = stops_less zs (omega arith) s
 assign_follow b v _ zs (goes {t} {ys = ys} (assign_by {sign = sign} {op = op} i h q)) s = stops_kind 2 t (ys ++ zs) (omega (arith, assignment_level sign op h)) i
 
@@ -98,7 +98,7 @@ cond_out v x (at (operation {sign = sign} d i h r) g) = stay v x (at (operation 
 cond_out v x (at (assign d i h r) g) = absurd (let P : 2 ≤ 1 → ⊥ = λ h. omega arith in P g)
 cond_out v x (at d g) = stay v x (at d (omega arith))
 
-choose_follow : (b : Spot × Expr) (v : Expr) (ys zs : List Token) → Maybe (ChooseBy b.0 b.1) b.1 v ys → Stops 2 zs → Stops 3 (ys ++ zs)
+choose_follow : (b : Spot × Expr) (v : Expr) (ys zs : List Token) → Maybe (ChooseBy b.0 b.1) b.1 v ys → BindsWeaker 2 zs → BindsWeaker 3 (ys ++ zs)
 choose_follow b v _ zs stays s = stops_less zs (omega arith) s
 choose_follow b v _ zs (goes {t} {ys = ys} (choose_by i q)) s = stops_kind 3 t (ys ++ zs) (omega arith) i
 

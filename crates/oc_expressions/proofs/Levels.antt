@@ -17,11 +17,11 @@ use Rattle.oc_grammar.specs.Tokens.{Is, spot_at}
 use Rattle.oc_grammar.specs.Tables.{prefix, operator, assignment, strength, opening}
 use Rattle.oc_source.specs.Parsed.{expr}
 use Rattle.oc_grammar.specs.Trees.{Leaf, number, character, text, null, truth, falsity}
-use Rattle.oc_grammar.specs.Expressions.{Rule, Expression, Before, before, assign, choose, operation, signed, cast, index, field, arrow, bumped, leaf, named, call, size, parens, at, Stops}
-use Rattle.oc_grammar.proofs.Reading.{Closes}
+use Rattle.oc_grammar.specs.Expressions.{Rule, Expression, Before, before, assign, choose, operation, signed, cast, index, field, arrow, bumped, leaf, named, call, size, parens, at, BindsWeaker}
+use Rattle.oc_grammar.proofs.Parsing.{Closes}
 use Rattle.oc_grammar.proofs.Calls.{made, is_made, spot_front}
 use Rattle.oc_expressions.specs.declared.signs.Postfix.{Postfix}
-use Rattle.oc_expressions.specs.Parts.{postfix, begins}
+use Rattle.oc_expressions.specs.Continuations.{postfix, begins}
 
 pub lower : {n m : ℕ} {v : Expr} {x : List Token} → n ≤ m → Expression m v x → Expression n v x
 lower h (at d g) = at d (omega arith)
@@ -143,16 +143,16 @@ not_empty (t ∷ x) b e = cc
 pub spot_begun : (x y : List Token) → Begun x → spot_at (x ++ y) ≡ spot_at x
 spot_begun x y b = spot_front x y (not_empty x b)
 
-pub stops_less : {n m : ℕ} (zs : List Token) → n ≤ m → Stops n zs → Stops m zs
+pub stops_less : {n m : ℕ} (zs : List Token) → n ≤ m → BindsWeaker n zs → BindsWeaker m zs
 stops_less [] h s = omega arith
 stops_less (t ∷ zs) h s = omega arith
 
 -- a token of a kind that doesn't bind
-pub stops_kind : (n : ℕ) {k : TokenKind} (t : Token) (zs : List Token) → strength k < n → Is k t → Stops n (t ∷ zs)
+pub stops_kind : (n : ℕ) {k : TokenKind} (t : Token) (zs : List Token) → strength k < n → Is k t → BindsWeaker n (t ∷ zs)
 stops_kind n t zs h i = rw i.kind h
 
 -- a token that binds is gone on with
-pub goes_kind : (n : ℕ) {k : TokenKind} (t : Token) (zs : List Token) → n ≤ strength k → Is k t → Stops n (t ∷ zs) → ⊥
+pub goes_kind : (n : ℕ) {k : TokenKind} (t : Token) (zs : List Token) → n ≤ strength k → Is k t → BindsWeaker n (t ∷ zs) → ⊥
 goes_kind n {k} t zs h i g = let f : strength k < n = rw i.kind at g in let P : strength k < n → n ≤ strength k → ⊥ = λ a b. omega arith in P f h
 
 -- the table says one thing of a token

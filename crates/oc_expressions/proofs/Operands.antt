@@ -12,13 +12,13 @@ use Rattle.oc_grammar.specs.Tokens.{Is, spot_at}
 use Rattle.oc_grammar.specs.Tables.{bump}
 use Rattle.oc_source.specs.Parsed.{expr}
 use Rattle.oc_grammar.specs.Trees.{prefixed, Leaf}
-use Rattle.oc_grammar.specs.Reading.{ended, Then, then, first, stays, goes, at_last, turn}
+use Rattle.oc_grammar.specs.Parsing.{ended, Then, then, first, stays, goes, at_last, turn}
 use Rattle.oc_grammar.specs.Calls.{one, a_named, Placed, placed}
 use Rattle.oc_grammar.specs.Expressions.{Rule, Expression, Before, assign, choose, operation, signed, cast, index, field, arrow, bumped, leaf, named, call, size, parens, at}
-use Rattle.oc_grammar.proofs.Reading.{then_end, loop_snoc, end_is}
+use Rattle.oc_grammar.proofs.Parsing.{then_end, loop_snoc, end_is}
 use Rattle.oc_expressions.specs.declared.signs.Postfix.{Postfix}
 use Rattle.oc_expressions.specs.declared.signs.Postfix.TheVariants as p
-use Rattle.oc_expressions.specs.Parts.{leaf_of, postfix, postfix_after, PostfixStep, postfix_step, postfixes, call_by, by_leaf, by_size, by_name, primary, by_cast, by_inner, Operand, by_paren, by_prefix, by_primary}
+use Rattle.oc_expressions.specs.Continuations.{leaf_of, postfix, postfix_after, PostfixStep, postfix_step, postfixes, call_by, by_leaf, by_size, by_name, primary, by_cast, by_inner, Operand, by_paren, by_prefix, by_primary}
 use Rattle.oc_expressions.proofs.Levels.{lower, operator_level, begun, Begun, spot_begun}
 
 -- ---- what stands after an operand

@@ -10,12 +10,12 @@ use Rattle.oc_grammar.specs.Tokens.{Is, spot_at}
 use Rattle.oc_grammar.specs.Tables.{operator}
 use Rattle.oc_source.specs.Parsed.{expr}
 use Rattle.oc_grammar.specs.Trees.{infixed}
-use Rattle.oc_grammar.specs.Reading.{SameNext, Found, Refused, Leaves, Then, then, Maybe, stays, goes}
+use Rattle.oc_grammar.specs.Parsing.{SameNext, Found, Refused, Leaves, Then, then, Maybe, stays, goes}
 use Rattle.oc_grammar.specs.Calls.{Placed, placed}
-use Rattle.oc_grammar.specs.Expressions.{Rule, Expression, assign, choose, operation, at, Stops, Ends}
-use Rattle.oc_grammar.proofs.Reading.{start, turned, read, fails, token_on, alone, same_token, no_token, Goes}
+use Rattle.oc_grammar.specs.Expressions.{Rule, Expression, assign, choose, operation, at, BindsWeaker, Ends}
+use Rattle.oc_grammar.proofs.Parsing.{start, turned, read, fails, token_on, alone, same_token, no_token, Goes}
 use Rattle.oc_grammar.proofs.Calls.{placed_found, placed_refused}
-use Rattle.oc_expressions.specs.Parts.{Operates, Below}
+use Rattle.oc_expressions.specs.Continuations.{Operates, Below}
 use Rattle.oc_expressions.proofs.Levels.{lower, some_pair, operator_level, filled, begun, spot_begun, stops_less, stops_kind, goes_kind, same_said}
 
 -- what may follow l, which binds at level m, in an expression of level n that begins at the spot: v is the whole
@@ -82,11 +82,11 @@ turn_rest : {spot : Spot} {n m : ℕ} {l : Expr} → n ≤ m → (v : Expr) (ys 
 turn_rest h v _ stays = rest_end h
 turn_rest h v _ (goes (rest_by is o g g' (then d q))) = rest_more is o g g' d q
 
-rest_follow : {spot : Spot} {n m : ℕ} (k : ℕ) → m < k → {l v : Expr} {ys : List Token} (zs : List Token) → Rest spot n m l v ys → Stops n zs → Stops k (ys ++ zs)
+rest_follow : {spot : Spot} {n m : ℕ} (k : ℕ) → m < k → {l v : Expr} {ys : List Token} (zs : List Token) → Rest spot n m l v ys → BindsWeaker n zs → BindsWeaker k (ys ++ zs)
 rest_follow k g zs (rest_end h) s = stops_less zs (omega arith) s
 rest_follow k g zs (rest_more {sign = sign} {t = t} {x = x} {y = y} is o h h' d q) s = stops_kind k t ((x ++ y) ++ zs) (omega (arith, operator_level sign _ _ o)) is
 
-operand_follow : {spot : Spot} {n : ℕ} → n ≤ 13 → {l v : Expr} {ys : List Token} (zs : List Token) → Rest spot n 13 l v ys → Stops n zs → Stops 13 (ys ++ zs)
+operand_follow : {spot : Spot} {n : ℕ} → n ≤ 13 → {l v : Expr} {ys : List Token} (zs : List Token) → Rest spot n 13 l v ys → BindsWeaker n zs → BindsWeaker 13 (ys ++ zs)
 operand_follow g zs (rest_end h) s = stops_less zs g s
 operand_follow g zs (rest_more {sign = sign} {t = t} {x = x} {y = y} is o h h' d q) s = stops_kind 13 t ((x ++ y) ++ zs) (omega (arith, operator_level sign _ _ o)) is
 

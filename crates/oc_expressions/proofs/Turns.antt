@@ -18,13 +18,13 @@ use Rattle.oc_grammar.specs.Tokens.{Is, Starts, NotNext, SignStarts, NoSign, spo
 use Rattle.oc_grammar.specs.Tables.{prefix, opening}
 use Rattle.oc_source.specs.Parsed.{expr}
 use Rattle.oc_grammar.specs.Trees.{prefixed, Leaf, number, character, text, null, truth, falsity}
-use Rattle.oc_grammar.specs.Reading.{SameNext, Found, Refused, Leaves, Any, End, ended, Then, then, By, first, at_last, turn}
+use Rattle.oc_grammar.specs.Parsing.{SameNext, Found, Refused, Leaves, Any, End, ended, Then, then, By, first, at_last, turn}
 use Rattle.oc_grammar.specs.Calls.{One, one, ANamed, Placed, placed}
 use Rattle.oc_grammar.specs.WrittenTypes.{Commas}
-use Rattle.oc_grammar.specs.Expressions.{Expression, Before, before, none, some, Listed, last, more, Stops, Ends}
-use Rattle.oc_grammar.proofs.Reading.{start, also, turned, read, fails, ends, token_on, alone, Goes, sure, Closes, close_end, close_then, after_end, loop_on, loop_done, by_end, by_none, by_left, end_is, taken}
+use Rattle.oc_grammar.specs.Expressions.{Expression, Before, before, none, some, Listed, last, more, BindsWeaker, Ends}
+use Rattle.oc_grammar.proofs.Parsing.{start, also, turned, read, fails, ends, token_on, alone, Goes, sure, Closes, close_end, close_then, after_end, loop_on, loop_done, by_end, by_none, by_left, end_is, taken}
 use Rattle.oc_grammar.proofs.Calls.{made, is_made, not_next, no_sign, after_one, placed_found, placed_refused}
-use Rattle.oc_declarators.specs.Forms.{closed_type}
+use Rattle.oc_declarators.specs.Continuations.{closed_type}
 use Rattle.oc_expressions.specs.declared.signs.Postfix.{Postfix}
 use Rattle.oc_expressions.specs.declared.signs.Postfix.TheVariants as p
 use Rattle.std.proofs.Math.Bool.{Bool-set}
@@ -34,10 +34,10 @@ use Rattle.oc_source.specs.Literals.{is_literal}
 use Rattle.oc_source.specs.declared.parsed.BaseName.{BaseName}
 use Rattle.oc_grammar.specs.WrittenTypes.{Base, type_named, last as last_one, more as one_more}
 use Rattle.oc_grammar.proofs.Lists.{CommaEnds}
-use Rattle.oc_declarators.specs.Forms.{base_after}
+use Rattle.oc_declarators.specs.Continuations.{base_after}
 use Rattle.oc_declarators.proofs.Marks.{base_out}
 use Rattle.oc_declarators.proofs.Names.{some_closed}
-use Rattle.oc_expressions.specs.Parts.{begins, LeafOf, leaf_of, postfix, postfix_after, PostfixStep, postfix_step, postfixes, closed_arguments, CallBy, call_by, size_after, name_after, PrimaryBy, by_leaf, by_size, by_name, primary, ParenAfter, by_cast, by_inner, Operand, by_paren, by_prefix, by_primary, BeginsType}
+use Rattle.oc_expressions.specs.Continuations.{begins, LeafOf, leaf_of, postfix, postfix_after, PostfixStep, postfix_step, postfixes, closed_arguments, CallBy, call_by, size_after, name_after, PrimaryBy, by_leaf, by_size, by_name, primary, ParenAfter, by_cast, by_inner, Operand, by_paren, by_prefix, by_primary, BeginsType}
 use Rattle.oc_expressions.proofs.Levels.{postfix_level, begun, Begun, begins_other, begun_append, stops_less, stops_kind, goes_kind, same_said, some_expr}
 use Rattle.oc_expressions.proofs.Operands.{operand_in, operand_out, primary_filled}
 
@@ -112,7 +112,7 @@ first_spot h = rw h refl
 operand_opened : (ts : List Token) → Leaves (Expression 13) (Ends 13) ts Operand ts
 operand_opened ts = turned (start (Expression 13) (Ends 13) ts) operand_in operand_out
 
-postfixes_follow : (b : Spot × Expr) (v : Expr) (ys zs : List Token) → postfixes b.0 b.1 v ys → Stops 13 zs → Stops 15 (ys ++ zs)
+postfixes_follow : (b : Spot × Expr) (v : Expr) (ys zs : List Token) → postfixes b.0 b.1 v ys → BindsWeaker 13 zs → BindsWeaker 15 (ys ++ zs)
 postfixes_follow b v _ zs at_last k = stops_less zs (omega arith) k
 postfixes_follow b v _ zs (turn {t = t} {xs = xs} {ys = ys} (postfix_step {sign} {said} i h q) r) k = stops_kind 15 t ((xs ++ ys) ++ zs) (omega (arith, postfix_level sign said h)) i
 
@@ -364,7 +364,7 @@ close_begun : (t : Token) (us x zs : List Token) → Is (Sign s.RightParen) t �
 close_begun t us [] zs i b g = b
 close_begun t us (u ∷ x) zs i b g = let h : t ≡ u = cc in let c : begins t.kind ≡ true = rw h b in let d : begins (Sign s.RightParen) ≡ true = rw i.kind at c in let k : false ≡ true = d in cc
 
-args_goes : Goes {A = List Expr} (CommaEnds (Stops 1)) Any (λ vs. Then (One (Sign s.RightParen)) (λ _. End vs))
+args_goes : Goes {A = List Expr} (CommaEnds (BindsWeaker 1)) Any (λ vs. Then (One (Sign s.RightParen)) (λ _. End vs))
 args_goes = after_one (Sign s.RightParen) (λ b t zs i. (λ j. let x = i.kind in let y = j.kind in cc, stops_kind 1 t zs (omega arith) i)) (λ b. close_end)
 
 module _ {ts : List Token} where
@@ -391,15 +391,15 @@ module _ {ts : List Token} where
         go v us _ zs a (then none (then {zs = c} (one {t} i) q)) g = absurd (not_next (Sign s.RightParen) t ts (c ++ zs) n (subst (λ us. SameNext ts us) g a) i)
         go v us _ zs a (then (some d) q) g = then (listed_commas d) q
 
-    pub list_fails : {r : List Token} → Refused (Commas (Expression 1)) (CommaEnds (Stops 1)) ts r → Refused closed_arguments Any ts r
+    pub list_fails : {r : List Token} → Refused (Commas (Expression 1)) (CommaEnds (BindsWeaker 1)) ts r → Refused closed_arguments Any ts r
     list_fails f = fails args_left f args_goes
 
-    module _ {vs : List Expr} {r1 : List Token} (f : Found (Commas (Expression 1)) (CommaEnds (Stops 1)) ts vs r1) where
+    module _ {vs : List Expr} {r1 : List Token} (f : Found (Commas (Expression 1)) (CommaEnds (BindsWeaker 1)) ts vs r1) where
       pub close_fails : {r : List Token} → Refused (One (Sign s.RightParen)) Any r1 r → Refused closed_arguments Any ts r
       close_fails g = fails (read args_left f args_goes) g (sure (λ u. close_end))
 
       pub args_read : {r : List Token} → Found (One (Sign s.RightParen)) Any r1 tt r → Found closed_arguments Any ts vs r
       args_read g = ends (read (read args_left f args_goes) g (sure (λ u. close_end)))
 
-pub comma_stops : (t : Token) (zs : List Token) → Is (Sign s.Comma) t → Stops 1 (t ∷ zs)
+pub comma_stops : (t : Token) (zs : List Token) → Is (Sign s.Comma) t → BindsWeaker 1 (t ∷ zs)
 comma_stops t zs i = stops_kind 1 t zs (omega arith) i

@@ -1,12 +1,12 @@
 //! Expressions, one reading call a rule of the grammar.
 
 ghost use Rattle.std.specs.Prelude.{◌≡◌, ◌<◌, ◌≤◌, [], ◌∷◌, length, IfOk};
-ghost use Rattle.oc_grammar.specs.Reading.{Any};
+ghost use Rattle.oc_grammar.specs.Parsing.{Any};
 ghost use Rattle.oc_grammar.specs.Calls.{Reads};
 ghost use Rattle.oc_grammar.specs.Tables.{strength};
 ghost use Rattle.oc_grammar.specs.WrittenTypes.{Commas};
 ghost use Rattle.oc_grammar.specs.Expressions.{Expression, Before, Ends};
-ghost use Rattle.oc_expressions.specs.Parts.{primary, postfixes, postfix_after, closed_arguments, size_after, name_after, ParenAfter, Below, ListEnds};
+ghost use Rattle.oc_expressions.specs.Continuations.{primary, postfixes, postfix_after, closed_arguments, size_after, name_after, ParenAfter, Below, ListEnds};
 
 use crate::leaves::{boxed, infixed, leaf, prefixed};
 use crate::signs::{
@@ -144,7 +144,7 @@ fn parens<'t>(
     ensures shorter { IfOk result (λ found. length found.1.now < length tokens.now) }
 {
     if begins_type(tokens) {
-        let (to, rest) = closed_type(alloc, tokens)?;
+        let (to, rest) = closed_type(tokens)?;
         let (part, rest) = unary(alloc, rest)?;
         return Ok((boxed(alloc, spot, ExprNode::Cast { to, part })?, rest));
     }
@@ -191,12 +191,12 @@ fn postfixed<'t>(
             Ok((boxed(alloc, spot, ExprNode::Index { part, amount })?, rest))
         }
         Postfix::Field => {
-            let (named, rest) = name(alloc, tokens)?;
+            let (named, rest) = name(tokens)?;
             let name = named.name;
             Ok((boxed(alloc, spot, ExprNode::Field { part, name })?, rest))
         }
         Postfix::Arrow => {
-            let (named, rest) = name(alloc, tokens)?;
+            let (named, rest) = name(tokens)?;
             let name = named.name;
             Ok((boxed(alloc, spot, ExprNode::Arrow { part, name })?, rest))
         }
@@ -249,7 +249,7 @@ fn size<'t>(
     ensures shorter { IfOk result (λ found. length found.1.now < length tokens.now) }
 {
     let rest = expect(tokens, Sign::LeftParen)?;
-    let (ty, rest) = closed_type(alloc, rest)?;
+    let (ty, rest) = closed_type(rest)?;
     Ok((boxed(alloc, spot, ExprNode::SizeOf(ty))?, rest))
 }
 
@@ -264,7 +264,7 @@ fn call<'t>(
     ensures reads { Reads (name_after spot name.now) (Ends 15) tokens.now result }
     ensures shorter { IfOk result (λ found. length found.1.now ≤ length tokens.now) }
 {
-    let name = Name::from_bytes(alloc, name.as_bytes())?;
+    let name = name.share()?;
     match eat(tokens, Sign::LeftParen) {
         None => Ok((boxed(alloc, spot, ExprNode::Named(name))?, tokens)),
         Some(rest) => {

@@ -5,14 +5,13 @@ ghost use Rattle.oc_source.specs.declared.parsed.Expr.{Expr};
 ghost use Rattle.oc_source.specs.declared.parsed.ExprNode.{ExprNode};
 ghost use Rattle.oc_source.specs.Parsed.{expr};
 ghost use Rattle.oc_grammar.specs.Trees.{prefixed as prefixed_node, infixed as infixed_node, Leaf};
-ghost use Rattle.oc_expressions.specs.Parts.{LeafOf};
+ghost use Rattle.oc_expressions.specs.Continuations.{LeafOf};
 
 use oc_grammar::tables::{Infix, Prefix};
 use oc_lexer::{Keyword, Token, TokenKind};
 use oc_source::parsed::{Expr, ExprNode};
 use oc_source::{Literal, Spot};
-use oc_values::IntKind;
-use oc_values::{Boxed, Name, NoMemory};
+use oc_values::{Boxed, IntKind, NoMemory};
 use std::alloc::{AllocError, Global};
 
 /// A node at a spot.
@@ -84,14 +83,14 @@ fn word_node(word: Keyword) -> Option<ExprNode>
 }
 
 // The expression that a token is by itself.
-fn leaf_node(alloc: Global, kind: &TokenKind) -> Result<Option<ExprNode>, NoMemory>
+fn leaf_node(kind: &TokenKind) -> Result<Option<ExprNode>, NoMemory>
     ensures { IfOk result (λ found. MatchOption found ((node : ExprNode) → Leaf kind.now node → ⊥) (λ node. Leaf kind.now node)) }
 {
     match kind {
         TokenKind::Number(literal) => Ok(Some(ExprNode::Number(*literal))),
         TokenKind::Character(byte) => Ok(Some(ExprNode::Number(small(*byte)))),
         TokenKind::Text(text) => {
-            let text = Name::from_bytes(alloc, text.as_bytes())?;
+            let text = text.share()?;
             Ok(Some(ExprNode::Text(text)))
         }
         TokenKind::Keyword(word) => Ok(word_node(*word)),
@@ -103,7 +102,7 @@ fn leaf_node(alloc: Global, kind: &TokenKind) -> Result<Option<ExprNode>, NoMemo
 pub fn leaf(alloc: Global, token: &Token) -> Result<Option<Boxed<Expr>>, NoMemory>
     ensures { IfOk result (λ found. MatchOption found ((v : Expr) → LeafOf token.now v → ⊥) (λ made. LeafOf token.now made)) }
 {
-    match leaf_node(alloc, &token.kind)? {
+    match leaf_node(&token.kind)? {
         Some(node) => Ok(Some(boxed(alloc, token.spot, node)?)),
         None => Ok(None),
     }

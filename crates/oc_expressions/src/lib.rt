@@ -6,7 +6,7 @@
 //! it, and promises that this is its production of the grammar and that no other reading of the tokens is, or
 //! says at which token they can't go on (`Reads` of `oc_grammar`).
 //!
-//! Operators of one level are taken in a loop, so only nesting is on the call stack. `specs/Parts.antt` has the
+//! Operators of one level are taken in a loop, so only nesting is on the call stack. `specs/Continuations.antt` has the
 //! productions without their first tokens, and says what a loop has left to read.
 #![tactic(auto)]
 

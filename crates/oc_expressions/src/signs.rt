@@ -3,7 +3,7 @@
 ghost use Rattle.std.specs.Prelude.{◌≡◌, MatchOption, IsTrue, ◌↔◌};
 ghost use Rattle.oc_grammar.specs.Tokens.{SignStarts, NoSign};
 ghost use Rattle.oc_grammar.specs.Tables.{prefix, assignment};
-ghost use Rattle.oc_expressions.specs.Parts.{postfix, Operates, Below, BeginsType};
+ghost use Rattle.oc_expressions.specs.Continuations.{postfix, Operates, Below, BeginsType};
 
 use oc_grammar::tables::{
     Infix, Opening, Prefix, assignment_of, opening_of, operator_of, prefix_of,

@@ -3,9 +3,9 @@ use Rattle.std.proofs.Common.{◌≡◌, ℕ, ◌≤◌, Option, Some, List, [],
 use Rattle.std.specs.Result.{IsErrAnd}
 use Rattle.std.proofs.lemmas.Result.{err_from_is_err_and}
 use Rattle.oc_grammar.specs.Tokens.{Is, Starts, NotNext, NoSign, spot_at}
-use Rattle.oc_grammar.specs.Reading.{SameNext, Found, Refused, Any, Then}
+use Rattle.oc_grammar.specs.Parsing.{SameNext, Found, Refused, Any, Then}
 use Rattle.oc_grammar.specs.Calls.{Reads, Fails, One, one, ANamed, a_named, Placed, placed}
-use Rattle.oc_grammar.proofs.Reading.{same_token, no_token, Goes, Closes, close_then, after_then}
+use Rattle.oc_grammar.proofs.Parsing.{same_token, no_token, Goes, Closes, close_then, after_then}
 use Rattle.oc_source.specs.declared.spot.Spot.{Spot}
 use Rattle.oc_lexer.specs.declared.token.Token.{Token}
 use Rattle.oc_lexer.specs.declared.token.Sign.{Sign as SignType}

@@ -1,4 +1,4 @@
-pub mod Reading
+pub mod Parsing
 pub mod Calls
 pub mod OpenEnds
 pub mod Views

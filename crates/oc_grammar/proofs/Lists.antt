@@ -4,9 +4,9 @@ use Rattle.oc_lexer.specs.declared.token.Token.{Token}
 use Rattle.oc_lexer.specs.declared.token.TokenKind.TheVariants.{Sign}
 use Rattle.oc_lexer.specs.declared.token.Sign.TheVariants as s
 use Rattle.oc_grammar.specs.Tokens.{Is, Starts, NotNext}
-use Rattle.oc_grammar.specs.Reading.{SameNext, Found, Refused, Leaves, Then, then, Loop, at_last, turn}
+use Rattle.oc_grammar.specs.Parsing.{SameNext, Found, Refused, Leaves, Then, then, Loop, at_last, turn}
 use Rattle.oc_grammar.specs.WrittenTypes.{Commas, last, more}
-use Rattle.oc_grammar.proofs.Reading.{start, turned, read, fails, Goes, loop_on, loop_done}
+use Rattle.oc_grammar.proofs.Parsing.{start, turned, read, fails, Goes, loop_on, loop_done}
 use Rattle.oc_grammar.proofs.Calls.{not_next}
 
 -- one more after a comma

@@ -7,7 +7,7 @@ use Rattle.oc_lexer.specs.declared.token.TokenKind.{TokenKind}
 use Rattle.oc_lexer.specs.declared.token.TokenKind.TheVariants.{Name}
 use Rattle.oc_grammar.specs.declared.taking.Named.{Named}
 use Rattle.oc_grammar.specs.Tokens.{Is, spot_at}
-use Rattle.oc_grammar.specs.Reading.{Found, Refused, Any}
+use Rattle.oc_grammar.specs.Parsing.{Found, Refused, Any}
 use Rattle.oc_grammar.specs.declared.ParseError.{ParseError}
 use Rattle.oc_grammar.specs.declared.ParseError.TheVariants.{Unexpected, NoMemory}
 
@@ -17,7 +17,8 @@ Fails form stop ts (Unexpected rest) = Refused form stop ts rest.now
 Fails form stop ts NoMemory = Unit {0}
 
 -- a value, and the tokens after it
-abbrev pub Reads : {A : Type 0} → (A → List Token → Type 0) → (A → List Token → Type 0) → List Token → Result (A × Bor (List Token)) ParseError → Type 0
+abbrev pub Reads : {A : Type 0} → (A → List Token → Type 0) → (A → List Token → Type 0) → List Token →
+    Result (A × Bor (List Token)) ParseError → Type 0
 Reads form stop ts (Ok p) = Found form stop ts p.0 p.1.now
 Reads form stop ts (Err e) = Fails form stop ts e
 

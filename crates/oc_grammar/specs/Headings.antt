@@ -22,12 +22,16 @@ use Rattle.oc_grammar.specs.Statements.{Block}
 
 -- names of one type, up to a semicolon
 pub data Fields : List FieldDef → List Token → Type 0 where
-  fields : {b : BaseName} {fs : List FieldDef} {t : Token} {x y : List Token} → Base b x → Commas (Declr b) fs y → Is (Sign s.Semicolon) t → Fields fs (x ++ (y ++ t ∷ []))
+  fields : {b : BaseName} {fs : List FieldDef} {t : Token} {x y : List Token} →
+      Base b x → Commas (Declr b) fs y → Is (Sign s.Semicolon) t →
+      Fields fs (x ++ (y ++ t ∷ []))
 
 -- one or more of these
 pub data AllFields : List FieldDef → List Token → Type 0 where
   last_fields : {fs : List FieldDef} {x : List Token} → Fields fs x → AllFields fs x
-  more_fields : {fs gs : List FieldDef} {x y : List Token} → Fields fs x → AllFields gs y → AllFields (fs ++ gs) (x ++ y)
+  more_fields : {fs gs : List FieldDef} {x y : List Token} →
+      Fields fs x → AllFields gs y →
+      AllFields (fs ++ gs) (x ++ y)
 
 -- a struct definition: the spot of its name, the name, and the fields
 abbrev pub struct_def : Spot → List ℕ → List FieldDef → StructDef
@@ -35,13 +39,20 @@ struct_def spot name fs = record { spot = spot; name = name; fields = fs }
 
 -- a struct definition, up to its semicolon
 pub data Struct : StructDef → List Token → Type 0 where
-  struct : {t n a b c : Token} {name : List ℕ} {fs : List FieldDef} {x : List Token} → Is (Keyword w.Struct) t → Is (Name name) n → Is (Sign s.LeftBrace) a → AllFields fs x → Is (Sign s.RightBrace) b → Is (Sign s.Semicolon) c → Struct (struct_def n.spot name fs) (t ∷ (n ∷ (a ∷ (x ++ b ∷ (c ∷ [])))))
+  struct : {t n a b c : Token} {name : List ℕ} {fs : List FieldDef} {x : List Token} →
+      Is (Keyword w.Struct) t → Is (Name name) n → Is (Sign s.LeftBrace) a → AllFields fs x → Is (Sign s.RightBrace) b →
+      Is (Sign s.Semicolon) c →
+      Struct (struct_def n.spot name fs) (t ∷ (n ∷ (a ∷ (x ++ b ∷ (c ∷ [])))))
 
 -- brackets after the name of a parameter
 pub data Brackets : ParamArray → List Token → Type 0 where
   plain : Brackets array.Plain []
-  open_brackets : {a b : Token} → Is (Sign s.LeftBracket) a → Is (Sign s.RightBracket) b → Brackets array.Open (a ∷ (b ∷ []))
-  sized : {a b c : Token} {n : Literal} → Is (Sign s.LeftBracket) a → Is (Number n) b → Is (Sign s.RightBracket) c → Brackets (array.Sized n.value) (a ∷ (b ∷ (c ∷ [])))
+  open_brackets : {a b : Token} →
+      Is (Sign s.LeftBracket) a → Is (Sign s.RightBracket) b →
+      Brackets array.Open (a ∷ (b ∷ []))
+  sized : {a b c : Token} {n : Literal} →
+      Is (Sign s.LeftBracket) a → Is (Number n) b → Is (Sign s.RightBracket) c →
+      Brackets (array.Sized n.value) (a ∷ (b ∷ (c ∷ [])))
 
 -- a parameter: the spot of its name, the name, the base, the number of stars, and the brackets
 abbrev pub param : Spot → List ℕ → BaseName → ℕ → ParamArray → Param
@@ -49,7 +60,9 @@ param spot name b n array = record { spot = spot; name = name; base = b; stars =
 
 -- a parameter, from its type to its brackets
 pub data Parameter : Param → List Token → Type 0 where
-  parameter : {b : BaseName} {n : ℕ} {name : List ℕ} {r : ParamArray} {t : Token} {x y z : List Token} → Base b x → Stars n y → Is (Name name) t → Brackets r z → Parameter (param t.spot name b n r) (x ++ (y ++ t ∷ z))
+  parameter : {b : BaseName} {n : ℕ} {name : List ℕ} {r : ParamArray} {t : Token} {x y z : List Token} →
+      Base b x → Stars n y → Is (Name name) t → Brackets r z →
+      Parameter (param t.spot name b n r) (x ++ (y ++ t ∷ z))
 
 -- what stands in the parentheses of a function: nothing, `void`, or parameters with commas between them
 pub data Parameters : List Param → List Token → Type 0 where
@@ -78,17 +91,26 @@ function spot name r ps mark b = record { spot = spot; name = name; result = r; 
 
 -- what follows the result of a function
 pub data AfterResult (r : Option TypeName) : Function → List Token → Type 0 where
-  after_result : {t a b : Token} {name : List ℕ} {ps : List Param} {mark : Bool} {bd : Option (List Stmt)} {y z w : List Token} → Is (Name name) t → Is (Sign s.LeftParen) a → Parameters ps y → Is (Sign s.RightParen) b → Mark mark z → Body bd w → AfterResult r (function t.spot name r ps mark bd) (t ∷ (a ∷ (y ++ b ∷ (z ++ w))))
+  after_result : {t a b : Token} {name : List ℕ} {ps : List Param} {mark : Bool} {bd : Option (List Stmt)} {y z w : List Token} →
+      Is (Name name) t → Is (Sign s.LeftParen) a → Parameters ps y → Is (Sign s.RightParen) b → Mark mark z →
+      Body bd w →
+      AfterResult r (function t.spot name r ps mark bd) (t ∷ (a ∷ (y ++ b ∷ (z ++ w))))
 
 -- a function with a body, or a prototype
 pub data FunctionSpelled : Function → List Token → Type 0 where
-  a_function : {r : Option TypeName} {f : Function} {x y : List Token} → Result r x → AfterResult r f y → FunctionSpelled f (x ++ y)
+  a_function : {r : Option TypeName} {f : Function} {x y : List Token} →
+      Result r x → AfterResult r f y →
+      FunctionSpelled f (x ++ y)
 
 -- struct definitions and functions in any order
 pub data Parts : List StructDef → List Function → List Token → Type 0 where
   no_part : Parts [] [] []
-  struct_part : {d : StructDef} {ds : List StructDef} {fs : List Function} {x y : List Token} → Struct d x → Parts ds fs y → Parts (d ∷ ds) fs (x ++ y)
-  function_part : {f : Function} {ds : List StructDef} {fs : List Function} {x y : List Token} → FunctionSpelled f x → Parts ds fs y → Parts ds (f ∷ fs) (x ++ y)
+  struct_part : {d : StructDef} {ds : List StructDef} {fs : List Function} {x y : List Token} →
+      Struct d x → Parts ds fs y →
+      Parts (d ∷ ds) fs (x ++ y)
+  function_part : {f : Function} {ds : List StructDef} {fs : List Function} {x y : List Token} →
+      FunctionSpelled f x → Parts ds fs y →
+      Parts ds (f ∷ fs) (x ++ y)
 
 -- a program, whatever its end
 pub data Derives : Program → List Token → Type 0 where

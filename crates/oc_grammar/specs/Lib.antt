@@ -1,5 +1,5 @@
 pub mod Tokens
-pub mod Reading
+pub mod Parsing
 pub mod Calls
 pub mod Tables
 pub mod Trees

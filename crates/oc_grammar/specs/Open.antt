@@ -11,7 +11,14 @@ open_node (StmtNode-F.OblivIf c y None) = true
 open_node (StmtNode-F.OblivIf c y (Some n)) = n
 open_node (StmtNode-F.While c b) = b
 open_node (StmtNode-F.For i c a b) = b
-open_node _ = false
+open_node (StmtNode-F.Declare ds) = false
+open_node (StmtNode-F.Express v) = false
+open_node (StmtNode-F.Block bs) = false
+open_node (StmtNode-F.Always name b) = false
+open_node (StmtNode-F.Return v) = false
+open_node StmtNode-F.Break = false
+open_node StmtNode-F.Continue = false
+open_node StmtNode-F.Empty = false
 
 -- whether a statement ends in an `if` or `obliv if` without an else
 abbrev pub ends_open : Stmt → Bool

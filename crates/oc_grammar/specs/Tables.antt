@@ -90,15 +90,15 @@ opening (Keyword w.Long) = o.Named width.Long
 opening _ = o.Other
 
 -- the kind of an integer type: whether it is unsigned, and the word that it is named after
-abbrev pub kind_of : Bool → Width → IntKind
-kind_of false width.Char = kind.I8
-kind_of true width.Char = kind.U8
-kind_of false width.Short = kind.I16
-kind_of true width.Short = kind.U16
-kind_of false width.Int = kind.I32
-kind_of true width.Int = kind.U32
-kind_of false width.Long = kind.I64
-kind_of true width.Long = kind.U64
+abbrev pub int_kind : Bool → Width → IntKind
+int_kind false width.Char = kind.I8
+int_kind true width.Char = kind.U8
+int_kind false width.Short = kind.I16
+int_kind true width.Short = kind.U16
+int_kind false width.Int = kind.I32
+int_kind true width.Int = kind.U32
+int_kind false width.Long = kind.I64
+int_kind true width.Long = kind.U64
 
 -- how tightly a token binds to the expression before it
 abbrev pub strength : TokenKind → ℕ

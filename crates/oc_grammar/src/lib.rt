@@ -4,7 +4,7 @@
 //! `Statements`, `Expressions` and `WrittenTypes`; `Tables` says what single signs and keywords stand for. The
 //! grammar is a relation: nothing in it says how a parser chooses.
 //!
-//! `specs/Reading.antt` says what it is to read a form from the front of a list of tokens, and
+//! `specs/Parsing.antt` says what it is to read a form from the front of a list of tokens, and
 //! `specs/Calls.antt` what a call that does so promises (`Reads`). What it answers is spelled by the tokens that
 //! it passed, and whatever follows the next token nothing else is. Where it fails, the tokens before that place
 //! begin the form, and with the next token they begin none. Each reading call of the crates above has that

@@ -1,7 +1,7 @@
 //! What single signs and keywords stand for in the grammar.
 
 ghost use Rattle.std.specs.Prelude.{◌≡◌};
-ghost use Rattle.oc_grammar.specs.Tables.{prefix, operator, assignment, opening, kind_of};
+ghost use Rattle.oc_grammar.specs.Tables.{prefix, operator, assignment, opening, int_kind};
 
 use oc_lexer::{Keyword, Sign, TokenKind};
 use oc_source::parsed::UnaryOp;
@@ -144,7 +144,7 @@ fn word_opening(word: Keyword) -> Opening
 
 /// The kind of an integer type that is named after a word.
 pub fn int_kind(unsigned: bool, width: Width) -> IntKind
-    ensures { result ≡ kind_of unsigned width }
+    ensures { result ≡ int_kind unsigned width }
 {
     match (unsigned, width) {
         (false, Width::Char) => IntKind::I8,

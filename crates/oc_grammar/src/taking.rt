@@ -3,14 +3,13 @@
 ghost use Rattle.std.specs.Prelude.{◌≡◌, ◌<◌, [], ◌∷◌, length, MatchOption, IfOk, IsTrue, ◌↔◌};
 ghost use Rattle.oc_lexer.specs.declared.token.Sign.{Sign as SignType};
 ghost use Rattle.oc_grammar.specs.Tokens.{Is, Starts, NotNext, spot_at};
-ghost use Rattle.oc_grammar.specs.Reading.{Any};
+ghost use Rattle.oc_grammar.specs.Parsing.{Any};
 ghost use Rattle.oc_grammar.specs.Calls.{Passes, Reads, One, ANamed};
 
 use crate::ParseError;
 use oc_lexer::{Keyword, Sign, Token, TokenKind};
 use oc_source::Spot;
 use oc_values::Name;
-use std::alloc::Global;
 
 /// The first token, and those after it.
 pub fn next(tokens: &[Token]) -> Option<(&Token, &[Token])>
@@ -106,8 +105,8 @@ pub fn eat_word(tokens: &[Token], word: Keyword) -> Option<&[Token]>
     }
 }
 
-/// Reads a name, and its spot.
-pub fn name<'t>(alloc: Global, tokens: &'t [Token]) -> Result<(Named, &'t [Token]), ParseError<'t>>
+/// Reads a name, which shares its bytes with the token, and its spot.
+pub fn name(tokens: &[Token]) -> Result<(Named, &[Token]), ParseError<'_>>
     ensures reads { Reads ANamed Any tokens.now result }
     ensures shorter { IfOk result (λ found. length found.1.now < length tokens.now) }
 {
@@ -116,7 +115,7 @@ pub fn name<'t>(alloc: Global, tokens: &'t [Token]) -> Result<(Named, &'t [Token
     };
     match &token.kind {
         TokenKind::Name(name) => {
-            let name = Name::from_bytes(alloc, name.as_bytes())?;
+            let name = name.share()?;
             Ok((
                 Named {
                     spot: token.spot,

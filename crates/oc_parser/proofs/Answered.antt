@@ -3,20 +3,21 @@ use Rattle.std.proofs.Common.{◌≡◌, ℕ, List, [], ◌++◌, length, drop, 
 use Rattle.std.proofs.Math.Logic.{⊎_elim}
 use Rattle.std.proofs.Math.Nat.{eq-or-lt_of_le}
 use Rattle.std.proofs.lemmas.Bool.{cases_lt}
+use Rattle.std.proofs.lemmas.List.Elements.{recursion_from_All}
 use Rattle.oc_source.specs.declared.spot.Spot.{Spot}
 use Rattle.oc_source.specs.declared.parsed.Program.{Program}
 use Rattle.oc_lexer.specs.declared.token.Token.{Token}
 use Rattle.oc_lexer.specs.declared.token.Lexed.{Lexed}
-use Rattle.oc_grammar.specs.Reading.{Found, Refused}
+use Rattle.oc_grammar.specs.Parsing.{Found, Refused}
 use Rattle.oc_grammar.specs.Headings.{Derives, program}
 use Rattle.oc_parser.specs.declared.faults.ParseRule.{ParseRule}
 use Rattle.oc_parser.specs.declared.faults.ParseRule.TheVariants.{G1, G2}
 use Rattle.oc_parser.specs.Places.{spot_from, place_spot}
-use Rattle.oc_parser.specs.Load.{IsLight, HeavyAt}
-use Rattle.oc_parser.specs.Refusals.{Refuses}
+use Rattle.oc_parser.specs.Load.{loads, IsLight, HeavyAt}
+use Rattle.oc_parser.specs.Refusals.{HasNoTree}
 use Rattle.oc_parser.specs.Programs.{program_of, Whole, whole, AtEnd}
 use Rattle.oc_parser.specs.Trees.{IsTree}
-use Rattle.oc_parser.proofs.Loads.{drop_front}
+use Rattle.oc_parser.proofs.Loads.{drop_front, small_at}
 use Rattle.oc_parser.proofs.Faulty.{is_fault, same_fault, spelled_no_fault, one_fault}
 
 -- ---- the forms of a program
@@ -65,7 +66,7 @@ module _ (lexed : Lexed) {p : Program} (f : Found (Whole lexed.end) AtEnd lexed.
 -- ---- a refusal
 
 heavy_not_light : {ts : List Token} {p : ℕ} → HeavyAt ts p → IsLight ts → ⊥
-heavy_not_light {p = p} h l = let a = l p in let b = h.heavy in omega arith
+heavy_not_light {ts = ts} {p = p} h l = let a = small_at (loads ts) p (recursion_from_All (λ n. n ≤ 1000) (loads ts) l) in let b = h.heavy in omega arith
 
 one_heavy : {ts : List Token} (p q : ℕ) → HeavyAt ts p → HeavyAt ts q → p ≡ q
 one_heavy p q f g =
@@ -76,18 +77,18 @@ one_heavy p q f g =
 
 module _ (lexed : Lexed) where
   -- the fault of the grammar
-  pub grammar_refuses : (rest : List Token) → IsLight lexed.tokens → Refused (Whole lexed.end) AtEnd lexed.tokens rest → Refuses lexed G1 (spot_from lexed.end rest)
+  pub grammar_refuses : (rest : List Token) → IsLight lexed.tokens → Refused (Whole lexed.end) AtEnd lexed.tokens rest → HasNoTree lexed G1 (spot_from lexed.end rest)
   grammar_refuses rest light f =
       let fault = is_fault (Whole lexed.end) AtEnd (λ w. refl) lexed.tokens rest f in
       (light, (length f.front, same_fault whole_derives derives_whole lexed.tokens (length f.front) fault, (let e : drop (length f.front) lexed.tokens ≡ rest = ap (λ x. drop (length f.front) x) f.whole ∙ drop_front f.front rest in sym (ap (spot_from lexed.end) e))))
 
   -- a program without a load that is too large is not refused
-  pub not_refused : (p : Program) (rule : ParseRule) (spot : Spot) → Derives p lexed.tokens → IsLight lexed.tokens → Refuses lexed rule spot → ⊥
+  pub not_refused : (p : Program) (rule : ParseRule) (spot : Spot) → Derives p lexed.tokens → IsLight lexed.tokens → HasNoTree lexed rule spot → ⊥
   not_refused p G1 spot d light r = spelled_no_fault p r.1.0 d r.1.1
   not_refused p G2 spot d light r = heavy_not_light r.1 light
 
   -- one rule at one spot
-  pub one_refusal : (rule other : ParseRule) (spot at : Spot) → Refuses lexed rule spot → Refuses lexed other at → (other ≡ rule) × (at ≡ spot)
+  pub one_refusal : (rule other : ParseRule) (spot at : Spot) → HasNoTree lexed rule spot → HasNoTree lexed other at → (other ≡ rule) × (at ≡ spot)
   one_refusal G1 G1 spot at r s = (refl, s.1.2 ∙ (ap (place_spot lexed.end lexed.tokens) (one_fault s.1.0 r.1.0 s.1.1 r.1.1) ∙ sym r.1.2))
   one_refusal G1 G2 spot at r s = absurd (heavy_not_light s.1 r.0)
   one_refusal G2 G1 spot at r s = absurd (heavy_not_light r.1 s.0)

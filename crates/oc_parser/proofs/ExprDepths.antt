@@ -15,7 +15,7 @@ use Rattle.oc_grammar.specs.declared.tables.Infix.{Infix}
 use Rattle.oc_grammar.specs.declared.tables.Infix.TheVariants as i
 use Rattle.oc_lexer.specs.declared.token.TokenKind.{TokenKind}
 use Rattle.oc_grammar.specs.Trees.{prefixed, infixed, Leaf, number, character, text, null, truth, falsity}
-use Rattle.oc_parser.specs.Depth.{greatest, parts_of_expr, type_depth, expr_depth}
+use Rattle.oc_source.specs.Depth.{greatest, parts_of_expr, type_depth, expr_depth}
 
 abbrev one_more : ExprNode-F ℕ ℕ → ℕ
 one_more node = greatest (parts_of_expr node) + 1

@@ -16,7 +16,7 @@ use Rattle.oc_grammar.specs.Trees.{Leaf, number, character, text, null, truth, f
 use Rattle.oc_grammar.specs.Expressions.{Rule, assign, choose, operation, signed, cast, index, field, arrow, bumped, leaf, named, call, size, parens, Expression, at, Before, before, Arguments, none, some, Listed, last, more}
 use Rattle.oc_parser.specs.declared.entries.Effect.TheVariants as effect
 use Rattle.oc_parser.specs.Load.{effect_of}
-use Rattle.oc_parser.specs.Depth.{greatest, expr_depth}
+use Rattle.oc_source.specs.Depth.{greatest, expr_depth}
 use Rattle.oc_parser.proofs.Flows.{Flow, nothing, then, less, within, plain, opens, closes, after, between}
 use Rattle.oc_parser.proofs.TypeFlows.{type_flow}
 use Rattle.oc_parser.proofs.ExprDepths.{depth_prefixed, depth_infixed, depth_leaf, depth_Bump, depth_Choose, depth_Assign, depth_Index, depth_Field, depth_Arrow, depth_Call, depth_Cast, depth_SizeOf, depth_Named}

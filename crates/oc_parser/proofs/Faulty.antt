@@ -3,7 +3,7 @@ use Rattle.std.proofs.Common.{◌≡◌, ℕ, zero, suc, ◌+◌, ◌≤◌, ◌
 use Rattle.std.proofs.Math.Logic.{⊎_elim}
 use Rattle.std.proofs.Math.Nat.{eq-or-lt_of_le}
 use Rattle.std.proofs.lemmas.Bool.{cases_lt}
-use Rattle.oc_grammar.specs.Reading.{SameNext, Refused}
+use Rattle.oc_grammar.specs.Parsing.{SameNext, Refused}
 use Rattle.oc_parser.specs.Refusals.{Begins, IsFault}
 
 -- a front of a front, and how it goes on

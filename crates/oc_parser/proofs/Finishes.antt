@@ -63,27 +63,27 @@ pub record Resting (d : ℕ) (below : List Entry) (rest : List Token) : Type 0 w
   pub under : Under (stack top below) rest
 
 -- Tokens of finished statements, beside each of which there was room for d.
-pub record Row (d : ℕ) (x : List Token) : Type 0 where
+pub record Series (d : ℕ) (x : List Token) : Type 0 where
   pub passes : (top : Entry) (below : List Entry) (rest : List Token) → Under (stack top below) (x ++ rest) → Resting d below rest
 
-pub row_less : {m n : ℕ} {x : List Token} → n ≤ m → Row m x → Row n x
-row_less h a = record {
+pub series_less : {m n : ℕ} {x : List Token} → n ≤ m → Series m x → Series n x
+series_less h a = record {
   passes = λ top below rest u. let r = a.passes top below rest u in record { room = omega (arith, r.room); top = r.top; under = r.under };
 }
 
-pub row_over : {d : ℕ} {x y : List Token} → x ≡ y → Row d x → Row d y
-row_over {d} h a = subst (λ ts. Row d ts) h a
+pub series_over : {d : ℕ} {x y : List Token} → x ≡ y → Series d x → Series d y
+series_over {d} h a = subst (λ ts. Series d ts) h a
 
-pub no_row : Row 0 []
-no_row = record { passes = λ top below rest u. record { room = omega (arith, u.now); top = top; under = u } }
+pub empty_series : Series 0 []
+empty_series = record { passes = λ top below rest u. record { room = omega (arith, u.now); top = top; under = u } }
 
-pub one_row : {d : ℕ} {x : List Token} → Finishes d x → Row d x
-one_row e = record {
+pub series_of : {d : ℕ} {x : List Token} → Finishes d x → Series d x
+series_of e = record {
   passes = λ top below rest u. let r = e.passes top.count top.opened below rest u in record { room = omega (arith, r.room); top = r.left.top; under = r.left.under };
 }
 
-pub two_rows : {m n : ℕ} {x y : List Token} → Row m x → Row n y → Row (max m n) (x ++ y)
-two_rows {x = x} {y = y} a b = record {
+pub two_series : {m n : ℕ} {x y : List Token} → Series m x → Series n y → Series (max m n) (x ++ y)
+two_series {x = x} {y = y} a b = record {
   passes = λ top below rest u.
       let r = a.passes top below (y ++ rest) (subst (λ ts. Under (stack top below) ts) (append_assoc x y rest) u) in
       let q = b.passes r.top below rest r.under in
@@ -91,7 +91,7 @@ two_rows {x = x} {y = y} a b = record {
 }
 
 -- finished statements in braces
-pub braces_end : {d : ℕ} {a b : Token} {x : List Token} → Is (Sign s.LeftBrace) a → Row d x → Is (Sign s.RightBrace) b → Finishes (d + 1) (a ∷ (x ++ b ∷ []))
+pub braces_end : {d : ℕ} {a b : Token} {x : List Token} → Is (Sign s.LeftBrace) a → Series d x → Is (Sign s.RightBrace) b → Finishes (d + 1) (a ∷ (x ++ b ∷ []))
 braces_end {b = b} {x = x} i f j = record {
   passes = λ c o below rest u.
       let outer : Entry = entry (c + 1) o in

@@ -1,3 +1,8 @@
+pub mod Firsts
+pub mod Fields
+pub mod ParameterLists
+pub mod AfterResults
+pub mod Tops
 pub mod Totals
 pub mod Loads
 pub mod Wholes

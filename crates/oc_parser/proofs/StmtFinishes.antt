@@ -1,5 +1,6 @@
 -- Statements take as many tokens as they are deep, blocks in blocks included.
 use Rattle.std.proofs.Common.{ℕ, ◌+◌, max, List, [], ◌∷◌, ◌++◌, map, Option, refl, ap, ◌∙◌, arith, append_assoc}
+use Rattle.std.specs.Option.{option_map_or}
 use Rattle.oc_source.specs.declared.parsed.BaseName.{BaseName}
 use Rattle.oc_source.specs.declared.parsed.Declared.{Declared}
 use Rattle.oc_source.specs.declared.parsed.Expr.{Expr}
@@ -15,13 +16,12 @@ use Rattle.oc_grammar.specs.Tokens.{Is, spot_at}
 use Rattle.oc_grammar.specs.WrittenTypes.{Commas}
 use Rattle.oc_grammar.specs.Expressions.{before}
 use Rattle.oc_grammar.specs.Statements.{Initialised, bare, set, Declaration, declaration, Condition, condition, Perhaps, absent, given, Init, nothing, declares, expresses, Statement, empty, express, block, returns, breaks, continues, if, obliv_if, always, while, for, Branches, one, two, Block, braces, Steps, no_step, a_declaration, a_statement}
-use Rattle.oc_parser.specs.Depth as deep
-use Rattle.oc_parser.specs.Depth.{greatest, expr_depth, declared_depth, init_depth, stmt_depth, stmts_depth}
+use Rattle.oc_source.specs.Depth.{greatest, expr_depth, declared_depth, init_depth, stmt_depth, stmts_depth}
 use Rattle.oc_parser.proofs.Flows.{Flow, then, less, within, plain, opens, closes, semicolon, after, between}
 use Rattle.oc_parser.proofs.TypeFlows.{base_flow, declr_flow, commas_flow}
 use Rattle.oc_parser.proofs.ExprFlows.{expr_flow, before_flow}
 use Rattle.oc_parser.proofs.StmtDepths.{depth_Declare, depth_Express, depth_Block, depth_If, depth_OblivIf, depth_Always, depth_While, depth_For, depth_Return, depth_Break, depth_Continue, depth_Empty}
-use Rattle.oc_parser.proofs.Finishes.{Finishes, Row, end_less, over, semicolon_ends, then_ends, else_ends, row_less, no_row, one_row, two_rows, braces_end}
+use Rattle.oc_parser.proofs.Finishes.{Finishes, Series, end_less, over, semicolon_ends, then_ends, else_ends, series_less, empty_series, series_of, two_series, braces_end}
 
 -- ---- what stands in a statement
 
@@ -41,11 +41,11 @@ declaration_flow (declaration b c i) = less (omega arith) (then (within 1 (base_
 condition_flow : {c : Expr} {x : List Token} → Condition c x → Flow 0 0 (expr_depth c) x
 condition_flow (condition i b) = less (omega arith) (then (opens refl i) (before_flow 1 0 (λ t j. closes refl j) b))
 
-perhaps_flow : {sign : SignType} {v : Option Expr} {x : List Token} (b : ℕ) → ((t : Token) → Is (Sign sign) t → Flow 1 b 1 (t ∷ [])) → Perhaps sign v x → Flow 1 b (deep.given expr_depth v) x
+perhaps_flow : {sign : SignType} {v : Option Expr} {x : List Token} (b : ℕ) → ((t : Token) → Is (Sign sign) t → Flow 1 b 1 (t ∷ [])) → Perhaps sign v x → Flow 1 b (option_map_or expr_depth v 0) x
 perhaps_flow b h (absent {t = t} i) = less (omega arith) (h t i)
 perhaps_flow b h (given d) = less (omega arith) (before_flow 1 b h d)
 
-perhaps_ends : {v : Option Expr} {x : List Token} → Perhaps s.Semicolon v x → Finishes (deep.given expr_depth v + 1) x
+perhaps_ends : {v : Option Expr} {x : List Token} → Perhaps s.Semicolon v x → Finishes (option_map_or expr_depth v 0 + 1) x
 perhaps_ends (absent i) = semicolon_ends i
 perhaps_ends (given (before d i)) = then_ends (expr_flow d) (semicolon_ends i)
 
@@ -74,14 +74,14 @@ mutual
   stmt_ends (while {t = t} {c = c} {b = b} i d g) = end_less (omega (arith, depth_While t.spot c b)) (then_ends (plain refl i) (then_ends (condition_flow d) (stmt_ends g)))
   stmt_ends (for {t = t} {i = k} {c = c} {a = a} {b = b} i j d g h e) = end_less (omega (arith, depth_For t.spot k c a b)) (then_ends (plain refl i) (header_ends (opens refl j) (init_flow d) (perhaps_flow 1 (λ u l. semicolon l) g) (perhaps_flow 0 (λ u l. closes refl l) h) (stmt_ends e)))
 
-  branches_end : {y : Stmt} {n : Option Stmt} {x : List Token} → Branches y n x → Finishes (max (stmt_depth y) (deep.given stmt_depth n)) x
+  branches_end : {y : Stmt} {n : Option Stmt} {x : List Token} → Branches y n x → Finishes (max (stmt_depth y) (option_map_or stmt_depth n 0)) x
   branches_end (one d) = end_less (omega arith) (stmt_ends d)
   branches_end (two d h i g) = else_ends (stmt_ends d) i (stmt_ends g)
 
   pub block_ends : {vs : List Stmt} {x : List Token} → Block vs x → Finishes (stmts_depth vs + 1) x
-  block_ends (braces i d j) = braces_end i (steps_row d) j
+  block_ends (braces i d j) = braces_end i (steps_series d) j
 
-  steps_row : {vs : List Stmt} {x : List Token} → Steps vs x → Row (stmts_depth vs) x
-  steps_row no_step = no_row
-  steps_row (a_declaration {b = b} {ds = ds} d g) = row_less (omega (arith, depth_Declare b.spot ds)) (two_rows (one_row (declaration_ends d)) (steps_row g))
-  steps_row (a_statement d g) = two_rows (one_row (stmt_ends d)) (steps_row g)
+  steps_series : {vs : List Stmt} {x : List Token} → Steps vs x → Series (stmts_depth vs) x
+  steps_series no_step = empty_series
+  steps_series (a_declaration {b = b} {ds = ds} d g) = series_less (omega (arith, depth_Declare b.spot ds)) (two_series (series_of (declaration_ends d)) (steps_series g))
+  steps_series (a_statement d g) = two_series (series_of (stmt_ends d)) (steps_series g)

@@ -8,7 +8,7 @@ use Rattle.oc_lexer.specs.declared.token.Token.{Token}
 use Rattle.oc_lexer.specs.declared.token.Keyword.{Keyword}
 use Rattle.oc_grammar.specs.declared.tables.Width.{Width}
 use Rattle.oc_grammar.specs.WrittenTypes.{Optional, absent, present, Core, char, short, int, long, Ints, bool, underscore_bool, plain, signed, unsigned, signed_alone, unsigned_alone, Base, plain_int, obliv_int, frozen_int, frozen_obliv, obliv_frozen, a_struct, frozen_struct, Stars, no_star, star, TypeNamed, type_named, Dims, no_dim, dim, Declr, declr, Commas, last, more}
-use Rattle.oc_parser.specs.Depth.{greatest, type_depth, field_depth}
+use Rattle.oc_source.specs.Depth.{greatest, type_depth, field_depth}
 use Rattle.oc_parser.proofs.Flows as f
 use Rattle.oc_parser.proofs.Flows.{Flow, nothing, then, less, within, after, between}
 

@@ -1,5 +1,6 @@
 -- What is left of a light source after each token.
-use Rattle.std.proofs.Common.{◌≡◌, ℕ, zero, suc, ◌+◌, ◌≤◌, Bool, true, false, ◌||◌, List, [], ◌∷◌, slice_index, refl, subst, arith}
+use Rattle.std.proofs.Common.{◌≡◌, ℕ, ◌+◌, ◌≤◌, Bool, true, false, ◌||◌, List, [], ◌∷◌, refl, subst, arith}
+use Rattle.std.proofs.lemmas.List.Elements.{recursion_from_All}
 use Rattle.std.specs.Prelude.{nat_lt}
 use Rattle.oc_lexer.specs.declared.token.Token.{Token}
 use Rattle.oc_lexer.specs.declared.token.TokenKind.{TokenKind}
@@ -9,7 +10,7 @@ use Rattle.oc_grammar.specs.Tokens.{Is}
 use Rattle.oc_parser.specs.declared.entries.Entry.{Entry}
 use Rattle.oc_parser.specs.declared.entries.Effect.{Effect}
 use Rattle.oc_parser.specs.declared.entries.Effect.TheVariants as effect
-use Rattle.oc_parser.specs.Load.{Stack, entry, stack, total, load, counted, effect_of, next_top, popped, emptied, passed, is_else_next, loads_after, loads, IsLight}
+use Rattle.oc_parser.specs.Load.{Stack, entry, stack, total, load, with_token, effect_of, next_top, popped, emptied, passed, is_else_next, loads_after, loads, IsLight}
 use Rattle.oc_parser.proofs.Loads.{AllSmall}
 
 -- Neither this stack nor a token after it has a load over 1,000.
@@ -17,12 +18,8 @@ pub record Under (st : Stack) (ts : List Token) : Type 0 where
   pub now : load st ≤ 1000
   pub later : AllSmall (loads_after st ts)
 
-all_small : (xs : List ℕ) → ((k : ℕ) → slice_index xs k ≤ 1000) → AllSmall xs
-all_small [] h = tt
-all_small (x ∷ xs) h = (h zero, all_small xs (λ k. h (suc k)))
-
 pub light_under : (ts : List Token) → IsLight ts → Under (stack (entry 0 0) []) ts
-light_under ts h = record { now = omega arith; later = all_small (loads ts) h }
+light_under ts h = record { now = omega arith; later = recursion_from_All (λ n. n ≤ 1000) (loads ts) h }
 
 -- ---- no effect adds to the load
 
@@ -44,14 +41,14 @@ passed_load effect.Nothing b st = omega arith
 
 -- ---- after a token of this kind
 
-pub step : {k : TokenKind} {st : Stack} {t : Token} {ts : List Token} → Is k t → Under st (t ∷ ts) → Under (passed (effect_of k) (is_else_next ts) (counted st)) ts
-step {st = st} {t = t} {ts = ts} i u = subst (λ k. Under (passed (effect_of k) (is_else_next ts) (counted st)) ts) i.kind (record {
-  now = omega (arith, passed_load (effect_of t.kind) (is_else_next ts) (counted st), u.later.0);
+pub step : {k : TokenKind} {st : Stack} {t : Token} {ts : List Token} → Is k t → Under st (t ∷ ts) → Under (passed (effect_of k) (is_else_next ts) (with_token st)) ts
+step {st = st} {t = t} {ts = ts} i u = subst (λ k. Under (passed (effect_of k) (is_else_next ts) (with_token st)) ts) i.kind (record {
+  now = omega (arith, passed_load (effect_of t.kind) (is_else_next ts) (with_token st), u.later.0);
   later = u.later.1;
 })
 
-pub step_by : {k : TokenKind} {e : Effect} {st : Stack} {t : Token} {ts : List Token} → effect_of k ≡ e → Is k t → Under st (t ∷ ts) → Under (passed e (is_else_next ts) (counted st)) ts
-step_by {st = st} {ts = ts} h i u = subst (λ e. Under (passed e (is_else_next ts) (counted st)) ts) h (step i u)
+pub step_by : {k : TokenKind} {e : Effect} {st : Stack} {t : Token} {ts : List Token} → effect_of k ≡ e → Is k t → Under st (t ∷ ts) → Under (passed e (is_else_next ts) (with_token st)) ts
+step_by {st = st} {ts = ts} h i u = subst (λ e. Under (passed e (is_else_next ts) (with_token st)) ts) h (step i u)
 
 pub recounted : {a b c d : ℕ} {below : List Entry} {ts : List Token} → a ≡ c → b ≡ d → Under (stack (entry a b) below) ts → Under (stack (entry c d) below) ts
 recounted {b = b} {c = c} {below = below} {ts = ts} h g u = subst (λ n. Under (stack (entry c n) below) ts) g (subst (λ n. Under (stack (entry n b) below) ts) h u)

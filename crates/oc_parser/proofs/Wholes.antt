@@ -7,14 +7,14 @@ use Rattle.oc_source.specs.declared.parsed.StructDef.{StructDef}
 use Rattle.oc_source.specs.declared.parsed.Function.{Function}
 use Rattle.oc_source.specs.declared.parsed.Program.{Program}
 use Rattle.oc_lexer.specs.declared.token.Token.{Token}
-use Rattle.oc_grammar.specs.Reading.{SameNext, Found, Refused, Leaves, Any, End, ended, Then, then}
+use Rattle.oc_grammar.specs.Parsing.{SameNext, Found, Refused, Leaves, Any, End, ended, Then, then}
 use Rattle.oc_grammar.specs.WrittenTypes.{type_named}
 use Rattle.oc_grammar.specs.Headings.{Struct, struct, void, typed, FunctionSpelled, a_function, Parts, no_part, struct_part, function_part}
-use Rattle.oc_grammar.proofs.Reading.{start, turned, also, read, fails, ends, Closes, sure}
-use Rattle.oc_expressions.specs.Parts.{BeginsType}
-use Rattle.oc_headings.specs.declared.parts.Part.{Part}
-use Rattle.oc_headings.specs.Shapes.{APart, a_struct_part, a_function_part}
-use Rattle.oc_headings.proofs.Firsts.{base_first}
+use Rattle.oc_grammar.proofs.Parsing.{start, turned, also, read, fails, ends, Closes, sure}
+use Rattle.oc_expressions.specs.Continuations.{BeginsType}
+use Rattle.oc_parser.specs.declared.parts.Part.{Part}
+use Rattle.oc_parser.specs.Continuations.{APart, a_struct_part, a_function_part}
+use Rattle.oc_parser.proofs.Firsts.{base_first}
 use Rattle.oc_parser.specs.Programs.{program_of, Whole, whole, AtEnd, with_part}
 
 -- parts after those of a program

@@ -1,7 +1,8 @@
 -- Load: how deep the tokens of a source nest. A stack of entries counts the tokens of what is open: of each
 -- block the statement that isn't finished, with the brackets that are open in it. The load of a token is the
 -- sum of all counts.
-use Rattle.std.specs.Prelude.{ℕ, ◌+◌, ◌-◌, ◌<◌, ◌≤◌, List, [], ◌∷◌, slice_index, Bool, true, false, nat_lt, ◌||◌}
+use Rattle.std.specs.Prelude.{ℕ, ◌+◌, ◌-◌, ◌<◌, ◌≤◌, List, [], ◌∷◌, length, slice_index, Bool, true, false, nat_lt, ◌||◌}
+use Rattle.std.specs.List.{All}
 use Rattle.oc_lexer.specs.declared.token.Token.{Token}
 use Rattle.oc_lexer.specs.declared.token.TokenKind.{TokenKind}
 use Rattle.oc_lexer.specs.declared.token.TokenKind.TheVariants.{Keyword, Sign}
@@ -34,8 +35,8 @@ abbrev pub load : Stack → ℕ
 load s = s.top.count + total s.below
 
 -- the top count rises by one
-abbrev pub counted : Stack → Stack
-counted s = stack (entry (s.top.count + 1) s.top.opened) s.below
+abbrev pub with_token : Stack → Stack
+with_token s = stack (entry (s.top.count + 1) s.top.opened) s.below
 
 -- what a token does to the stack after it was counted
 abbrev pub effect_of : TokenKind → Effect
@@ -88,7 +89,7 @@ is_else_next (t ∷ ts) = is_else t.kind
 -- the load of each token after this stack
 abbrev pub loads_after : Stack → List Token → List ℕ
 loads_after s [] = []
-loads_after s (t ∷ ts) = load (counted s) ∷ loads_after (passed (effect_of t.kind) (is_else_next ts) (counted s)) ts
+loads_after s (t ∷ ts) = load (with_token s) ∷ loads_after (passed (effect_of t.kind) (is_else_next ts) (with_token s)) ts
 
 -- the load of each token of a source
 abbrev pub loads : List Token → List ℕ
@@ -96,9 +97,10 @@ loads = loads_after (stack (entry 0 0) [])
 
 -- no load is over 1,000
 abbrev pub IsLight : List Token → Type 0
-IsLight ts = (p : ℕ) → slice_index (loads ts) p ≤ 1000
+IsLight ts = All (λ n. n ≤ 1000) (loads ts)
 
 -- the token at place p is the first whose load is over 1,000
 pub record HeavyAt (ts : List Token) (p : ℕ) : Type 0 where
+  pub within : p < length ts
   pub heavy : 1000 < slice_index (loads ts) p
   pub before : (q : ℕ) → q < p → slice_index (loads ts) q ≤ 1000

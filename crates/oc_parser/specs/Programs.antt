@@ -6,8 +6,8 @@ use Rattle.oc_source.specs.declared.parsed.Function.{Function}
 use Rattle.oc_source.specs.declared.parsed.Program.{Program}
 use Rattle.oc_lexer.specs.declared.token.Token.{Token}
 use Rattle.oc_grammar.specs.Headings.{Parts}
-use Rattle.oc_headings.specs.declared.parts.Part.{Part}
-use Rattle.oc_headings.specs.declared.parts.Part.TheVariants as part
+use Rattle.oc_parser.specs.declared.parts.Part.{Part}
+use Rattle.oc_parser.specs.declared.parts.Part.TheVariants as part
 
 -- a program: the struct definitions, the functions, and the spot of its end
 abbrev pub program_of : List StructDef → List Function → Spot → Program
@@ -15,7 +15,9 @@ program_of ds fs end = record { structs = ds; functions = fs; end = end }
 
 -- the tokens spell this program, which has this end
 pub data Whole (end : Spot) : Program → List Token → Type 0 where
-  whole : {ds : List StructDef} {fs : List Function} {x : List Token} → Parts ds fs x → Whole end (program_of ds fs end) x
+  whole : {ds : List StructDef} {fs : List Function} {x : List Token} →
+      Parts ds fs x →
+      Whole end (program_of ds fs end) x
 
 -- no token comes next
 abbrev pub AtEnd : {A : Type 0} → A → List Token → Type 0

@@ -25,9 +25,10 @@ module _ {X A : Type 0} (form : A → List X → Type 0) where
 
 -- the tokens are refused by this rule at this spot: G2 at the first load over 1,000, and where there is none G1 at
 -- the first token that no program goes on with, or at the end
-abbrev pub Refuses : Lexed → ParseRule → Spot → Type 0
-Refuses lexed G1 spot = IsLight lexed.tokens × ((p : ℕ) × IsFault Derives lexed.tokens p × (spot ≡ place_spot lexed.end lexed.tokens p))
-Refuses lexed G2 spot = (p : ℕ) × HeavyAt lexed.tokens p × (spot ≡ place_spot lexed.end lexed.tokens p)
+abbrev pub HasNoTree : Lexed → ParseRule → Spot → Type 0
+HasNoTree lexed G1 spot = IsLight lexed.tokens ×
+    ((p : ℕ) × IsFault Derives lexed.tokens p × (spot ≡ place_spot lexed.end lexed.tokens p))
+HasNoTree lexed G2 spot = (p : ℕ) × HeavyAt lexed.tokens p × (spot ≡ place_spot lexed.end lexed.tokens p)
 
 -- a fact of the rule and the spot of a refusal; want of memory says nothing
 abbrev pub IfRefused : ParseFault → (ParseRule → Spot → Type 0) → Type 0

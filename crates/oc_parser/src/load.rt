@@ -2,7 +2,7 @@
 
 ghost use Rattle.std.specs.Prelude.{◌≡◌, ◌+◌, ◌-◌, ◌<◌, ◌≤◌, ℕ, IfOk, MatchOption};
 ghost use Rattle.oc_source.specs.declared.spot.Spot.{Spot};
-ghost use Rattle.oc_parser.specs.Load.{stack, effect_of, counted, entered, popped, emptied, passed, is_else_next, IsLight, HeavyAt};
+ghost use Rattle.oc_parser.specs.Load.{stack, effect_of, with_token, entered, popped, emptied, passed, is_else_next, IsLight, HeavyAt};
 ghost use Rattle.oc_parser.specs.Places.{place_spot};
 ghost use Rattle.oc_parser.specs.Stacks.{stack_of};
 
@@ -69,9 +69,9 @@ fn with_top(counts: Counts, top: Entry) -> Counts
 }
 
 // With one token more.
-fn counted(counts: Counts) -> Counts
+fn with_token(counts: Counts) -> Counts
     requires { counts.sum ≤ 1000 }
-    ensures stack { stack_of result ≡ counted (stack_of counts) }
+    ensures stack { stack_of result ≡ with_token (stack_of counts) }
     ensures sum { result.sum ≡ counts.sum + 1 }
     ensures narrow { result.top.opened < result.top.count }
 {
@@ -174,7 +174,7 @@ pub fn first_heavy(alloc: Global, tokens: &[Token]) -> Result<Option<Spot>, NoMe
     };
     let mut rest = tokens;
     while let Some((token, after)) = next(rest) {
-        let more = counted(counts);
+        let more = with_token(counts);
         if more.sum > MAX_LOAD {
             return Ok(Some(token.spot));
         }

@@ -5,9 +5,9 @@ ghost use Rattle.oc_source.specs.declared.spot.Spot.{Spot};
 ghost use Rattle.oc_source.specs.declared.parsed.Program.{Program};
 ghost use Rattle.oc_grammar.specs.Headings.{Derives};
 ghost use Rattle.oc_parser.specs.declared.faults.ParseRule.{ParseRule};
-ghost use Rattle.oc_parser.specs.Depth.{depth};
+ghost use Rattle.oc_source.specs.Depth.{depth};
 ghost use Rattle.oc_parser.specs.Load.{IsLight};
-ghost use Rattle.oc_parser.specs.Refusals.{Refuses, IfRefused};
+ghost use Rattle.oc_parser.specs.Refusals.{HasNoTree, IfRefused};
 ghost use Rattle.oc_parser.specs.Trees.{IsTree};
 
 use crate::faults::{ParseFault, ParseRule};
@@ -27,12 +27,12 @@ pub fn parse(alloc: Global, lexed: &Lexed) -> Result<Program, ParseFault>
     ensures light { IfOk result (λ program. IsLight lexed.now.tokens) }
     // No node of the tree lies under 1,000 others or more.
     ensures shallow { IfOk result (λ program. depth program ≤ 1000) }
-    ensures accepted { IfOk result (λ program. (rule : ParseRule) (spot : Spot) → Refuses lexed.now rule spot → ⊥) }
+    ensures accepted { IfOk result (λ program. (rule : ParseRule) (spot : Spot) → HasNoTree lexed.now rule spot → ⊥) }
 
     // The rule and the spot are those that refuse the tokens.
-    ensures refused { IfErr result (λ fault. IfRefused fault (λ rule spot. Refuses lexed.now rule spot)) }
+    ensures refused { IfErr result (λ fault. IfRefused fault (λ rule spot. HasNoTree lexed.now rule spot)) }
     // No other rule or spot refuses them, and they spell no tree without a load that is too large.
-    ensures only_refusal { IfErr result (λ fault. IfRefused fault (λ rule spot. (other : ParseRule) (at : Spot) → Refuses lexed.now other at → (other ≡ rule) × (at ≡ spot))) }
+    ensures only_refusal { IfErr result (λ fault. IfRefused fault (λ rule spot. (other : ParseRule) (at : Spot) → HasNoTree lexed.now other at → (other ≡ rule) × (at ≡ spot))) }
     ensures none { IfErr result (λ fault. IfRefused fault (λ rule spot. (program : Program) → Derives program lexed.now.tokens → IsLight lexed.now.tokens → ⊥)) }
 {
     let tokens = lexed.tokens.as_slice();

@@ -1,14 +1,14 @@
 //! Whole programs.
 
 ghost use Rattle.std.specs.Prelude.{◌≡◌, ◌∷◌, ◌++◌, [], IfOk, MatchResult};
-ghost use Rattle.oc_grammar.specs.Reading.{Found};
+ghost use Rattle.oc_grammar.specs.Parsing.{Found};
 ghost use Rattle.oc_grammar.specs.Calls.{Fails};
 ghost use Rattle.oc_parser.specs.Programs.{Whole, AtEnd, with_part};
 ghost use Rattle.oc_parser.specs.Places.{spot_from};
 
+use crate::parts::{Part, next_part};
 use oc_grammar::ParseError;
 use oc_grammar::taking::next;
-use oc_headings::parts::{Part, next_part};
 use oc_lexer::Token;
 use oc_source::Spot;
 use oc_source::parsed::Program;

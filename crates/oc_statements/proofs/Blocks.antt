@@ -6,12 +6,12 @@ use Rattle.oc_lexer.specs.declared.token.TokenKind.TheVariants.{Keyword, Sign}
 use Rattle.oc_lexer.specs.declared.token.Keyword.TheVariants as w
 use Rattle.oc_lexer.specs.declared.token.Sign.TheVariants as s
 use Rattle.oc_grammar.specs.Tokens.{Is, Starts, NotNext}
-use Rattle.oc_grammar.specs.Reading.{SameNext, Found, Refused, Leaves, Any, End, ended, Then, then}
+use Rattle.oc_grammar.specs.Parsing.{SameNext, Found, Refused, Leaves, Any, End, ended, Then, then}
 use Rattle.oc_grammar.specs.Calls.{One}
 use Rattle.oc_grammar.specs.Statements.{Block, Closed, braces, no_step}
-use Rattle.oc_grammar.proofs.Reading.{start, also, turned, read, fails, ends, through, through_fails, taken, Goes, sure, Closes}
+use Rattle.oc_grammar.proofs.Parsing.{start, also, turned, read, fails, ends, through, through_fails, taken, Goes, sure, Closes}
 use Rattle.oc_grammar.proofs.Calls.{made, is_made, not_next}
-use Rattle.oc_statements.specs.Shapes.{Step, Run, run_end, run_more}
+use Rattle.oc_statements.specs.Continuations.{Step, Run, run_end, run_more}
 use Rattle.oc_statements.proofs.Grammar.{block_out, block_in, else_idle, brace_idle, no_step_begins}
 
 run_goes : (l : List Stmt) → Goes Closed Any (λ v. Run (l ++ v ∷ []))

@@ -10,15 +10,15 @@ use Rattle.oc_lexer.specs.declared.token.Keyword.TheVariants as w
 use Rattle.oc_lexer.specs.declared.token.Sign.TheVariants as s
 use Rattle.oc_grammar.specs.Tokens.{Starts, NotNext, spot_at}
 use Rattle.oc_source.specs.Parsed.{stmt}
-use Rattle.oc_grammar.specs.Reading.{SameNext, Found, Refused, Leaves, Any, End, Then, then, Maybe, stays, goes}
+use Rattle.oc_grammar.specs.Parsing.{SameNext, Found, Refused, Leaves, Any, End, Then, then, Maybe, stays, goes}
 use Rattle.oc_grammar.specs.Calls.{One, one, Placed, placed}
 use Rattle.oc_grammar.specs.Statements.{Condition, Statement, Block, Closed}
 use Rattle.oc_grammar.specs.Open.{ends_open}
-use Rattle.oc_grammar.proofs.Reading.{start, turned, read, fails, ends, token_on, alone, Goes, sure, Closes, close_end, close_then, after_end}
+use Rattle.oc_grammar.proofs.Parsing.{start, turned, read, fails, ends, token_on, alone, Goes, sure, Closes, close_end, close_then, after_end}
 use Rattle.oc_grammar.proofs.Calls.{not_next, placed_found, placed_refused}
 use Rattle.oc_grammar.proofs.OpenEnds.{open-if, open-else, open-obliv_if, open-obliv_else, open-while, open-for}
 use Rattle.oc_statements.specs.declared.simple.Header.{Header}
-use Rattle.oc_statements.specs.Shapes.{header_form, name_form, if_node, ElseBy, else_by, if_after, while_after, for_after, always_after, Run}
+use Rattle.oc_statements.specs.Continuations.{header_form, name_form, if_node, ElseBy, else_by, if_after, while_after, for_after, always_after, Run}
 use Rattle.oc_statements.proofs.Headers.{some_condition}
 use Rattle.oc_statements.proofs.Lone.{some_simple}
 use Rattle.oc_statements.proofs.Grammar.{block_out, simple_in}

@@ -9,12 +9,12 @@ use Rattle.oc_source.specs.declared.parsed.StmtNode.TheVariants as st
 use Rattle.oc_lexer.specs.declared.token.Token.{Token}
 use Rattle.oc_grammar.specs.declared.ParseError.{ParseError}
 use Rattle.oc_source.specs.Parsed.{stmt}
-use Rattle.oc_grammar.specs.Reading.{Found, Refused, Leaves, Any, then}
+use Rattle.oc_grammar.specs.Parsing.{Found, Refused, Leaves, Any, then}
 use Rattle.oc_grammar.specs.Calls.{Reads}
 use Rattle.oc_grammar.specs.Statements.{Closed}
 use Rattle.oc_grammar.specs.Open.{open_node, ends_open}
-use Rattle.oc_grammar.proofs.Reading.{through, through_fails, stricter, stricter_fails, end_is}
-use Rattle.oc_statements.specs.Shapes.{Simple, declare_after}
+use Rattle.oc_grammar.proofs.Parsing.{through, through_fails, stricter, stricter_fails, end_is}
+use Rattle.oc_statements.specs.Continuations.{SimpleStatement, declare_after}
 use Rattle.oc_statements.proofs.Lone.{simple_shut}
 
 -- the last call reads all that is left, whatever follows
@@ -38,6 +38,6 @@ declare_closed b ts (Ok p) f = shut_closed p.0 p.1.now (go f.derives)
     go (then {w = ds} d q) = let e = end_is q in rw e.0 (open_declare b.spot ds)
 declare_closed b ts (Err e) f = tt
 
-pub simple_closed : (ts : List Token) (r : Result (Stmt × Bor (List Token)) ParseError) → Reads Simple Any ts r → IfOk r (λ found. Closed found.0 found.1.now)
+pub simple_closed : (ts : List Token) (r : Result (Stmt × Bor (List Token)) ParseError) → Reads SimpleStatement Any ts r → IfOk r (λ found. Closed found.0 found.1.now)
 simple_closed ts (Ok p) f = shut_closed p.0 p.1.now (simple_shut f.derives)
 simple_closed ts (Err e) f = tt

@@ -10,16 +10,17 @@ use Rattle.oc_lexer.specs.declared.token.TokenKind.TheVariants.{Name, Sign}
 use Rattle.oc_lexer.specs.declared.token.Sign.TheVariants as s
 use Rattle.oc_grammar.specs.Tokens.{Starts, NotNext}
 use Rattle.oc_source.specs.Parsed.{stmt, field, declared}
-use Rattle.oc_grammar.specs.Reading.{SameNext, Found, Refused, Leaves, Any, End, Then, then, Maybe, stays, goes}
+use Rattle.oc_grammar.specs.Parsing.{SameNext, Found, Refused, Leaves, Any, End, Then, then, Maybe, stays, goes}
 use Rattle.oc_grammar.specs.Calls.{One}
 use Rattle.oc_grammar.specs.WrittenTypes.{Declr, declr, no_star, star, no_dim, Commas, last, more}
-use Rattle.oc_grammar.specs.Expressions.{Expression, Stops, Ends}
+use Rattle.oc_grammar.specs.Expressions.{Expression, BindsWeaker, Ends}
 use Rattle.oc_grammar.specs.Statements.{Initialised, bare, set}
-use Rattle.oc_grammar.proofs.Reading.{start, turned, read, fails, ends, token_on, alone, Goes, sure, Closes, close_end, close_then, after_end, then_end, end_is}
+use Rattle.oc_grammar.proofs.Parsing.{start, turned, read, fails, ends, token_on, alone, Goes, sure, Closes, close_end, close_then, after_end, then_end, end_is}
 use Rattle.oc_grammar.proofs.Calls.{made, is_made, not_next, close_one, after_one}
-use Rattle.oc_declarators.specs.Forms.{NoWord, NoBracket}
+use Rattle.oc_declarators.specs.Continuations.{NoWord, NoBracket}
 use Rattle.oc_expressions.proofs.Levels.{stops_kind, goes_kind}
-use Rattle.oc_statements.specs.Shapes.{SetBy, set_by, NameEnds, NamesEnd, names_after, declare_after}
+use Rattle.oc_expressions.specs.Continuations.{ListEnds}
+use Rattle.oc_statements.specs.Continuations.{SetBy, set_by, NameEnds, names_after, declare_after}
 
 -- ---- a declared name
 
@@ -36,14 +37,14 @@ unfolding initialised
 initialised_out b d x (bare e) = let h : Then (Declr b) (λ f. Maybe (SetBy f) (declared f None)) d (x ++ []) = then e stays in rw append-nil at h
 initialised_out b d _ (set {f} {v} {y = y} e i dv) = then e (goes (set_by i (then_end (λ v. declared f (Some v)) v y dv)))
 
-no_bracket : (zs : List Token) → Stops 1 zs → NotNext (Sign s.LeftBracket) zs
+no_bracket : (zs : List Token) → BindsWeaker 1 zs → NotNext (Sign s.LeftBracket) zs
 no_bracket [] h = tt
 no_bracket (t ∷ zs) h = λ i. goes_kind 1 t zs (omega arith) i h
 
 declr_goes : Goes NoBracket NameEnds (λ (f : FieldDef). Maybe (SetBy f) (declared f None))
 declr_goes = record { follow = λ f v ys zs q h. go f v ys zs q h; closes = λ f. (declared f None, [], stays) }
   where
-    go : (f : FieldDef) (v : Declared) (ys zs : List Token) → Maybe (SetBy f) (declared f None) v ys → Stops 1 zs → NotNext (Sign s.LeftBracket) (ys ++ zs)
+    go : (f : FieldDef) (v : Declared) (ys zs : List Token) → Maybe (SetBy f) (declared f None) v ys → BindsWeaker 1 zs → NotNext (Sign s.LeftBracket) (ys ++ zs)
     go f v _ zs stays h = no_bracket zs h
     go f v _ zs (goes (set_by i q)) h = λ j. let a = i.kind in let b = j.kind in cc
 
@@ -84,14 +85,14 @@ module _ (b : BaseName) {ts : List Token} where
 
 -- ---- the names of a declaration
 
-list_goes : Goes {A = List Declared} NamesEnd Any (λ ds. Then (One (Sign s.Semicolon)) (λ _. End ds))
+list_goes : Goes {A = List Declared} ListEnds Any (λ ds. Then (One (Sign s.Semicolon)) (λ _. End ds))
 list_goes = after_one (Sign s.Semicolon) (λ ds t zs i. (λ j. let x = i.kind in let y = j.kind in cc, stops_kind 1 t zs (omega arith) i)) (λ ds. close_end)
 
 module _ (b : BaseName) {ts : List Token} where
-  pub list_fails : {r : List Token} → Refused (Commas (Initialised b)) NamesEnd ts r → Refused (names_after b) Any ts r
+  pub list_fails : {r : List Token} → Refused (Commas (Initialised b)) ListEnds ts r → Refused (names_after b) Any ts r
   list_fails f = fails (start (names_after b) Any ts) f list_goes
 
-  module _ {ds : List Declared} {r1 : List Token} (f : Found (Commas (Initialised b)) NamesEnd ts ds r1) where
+  module _ {ds : List Declared} {r1 : List Token} (f : Found (Commas (Initialised b)) ListEnds ts ds r1) where
     pub end_fails : {r : List Token} → Refused (One (Sign s.Semicolon)) Any r1 r → Refused (names_after b) Any ts r
     end_fails g = fails (read (start (names_after b) Any ts) f list_goes) g (sure (λ u. close_end))
 

@@ -14,19 +14,19 @@ use Rattle.oc_grammar.specs.declared.tables.Opening.TheVariants as o
 use Rattle.oc_grammar.specs.Tokens.{Is, spot_at}
 use Rattle.oc_grammar.specs.Tables.{opening}
 use Rattle.oc_source.specs.Parsed.{stmt}
-use Rattle.oc_grammar.specs.Reading.{ended, Then, then, By, first, Maybe, stays, goes}
+use Rattle.oc_grammar.specs.Parsing.{ended, Then, then, By, first, Maybe, stays, goes}
 use Rattle.oc_grammar.specs.Calls.{One, one, a_named, placed}
 use Rattle.oc_grammar.specs.Statements.{Declaration, Condition, Statement, Branches, Block, braces, Steps, no_step, a_declaration, a_statement}
 use Rattle.oc_grammar.specs.Statements as g
-use Rattle.oc_grammar.proofs.Reading.{then_end, end_is}
-use Rattle.oc_expressions.specs.Parts.{begins, BeginsType}
+use Rattle.oc_grammar.proofs.Parsing.{then_end, end_is}
+use Rattle.oc_expressions.specs.Continuations.{begins, BeginsType}
 use Rattle.oc_expressions.proofs.Levels.{Begun}
 use Rattle.oc_statements.specs.declared.leads.Lead.{Lead}
 use Rattle.oc_statements.specs.declared.leads.Lead.TheVariants as lead
 use Rattle.oc_statements.specs.declared.simple.Header.{Header}
-use Rattle.oc_statements.specs.declared.leads.Simple.TheVariants as simple
-use Rattle.oc_statements.specs.Shapes.{Simple, simple_lead, lead_at, header, header_form, if_node, ElseBy, else_by, if_after, while_after, for_after, always_after, Step, declares, states, Run, run_end, run_more, TildeAfter, by_always, by_simple, stmt_after}
-use Rattle.oc_statements.specs.Shapes as shape
+use Rattle.oc_statements.specs.declared.leads.SimpleLead.TheVariants as simple
+use Rattle.oc_statements.specs.Continuations.{SimpleStatement, simple_lead, lead_at, header, header_form, if_node, ElseBy, else_by, if_after, while_after, for_after, always_after, Step, declares, states, Run, run_end, run_more, TildeAfter, by_always, by_simple, stmt_after}
+use Rattle.oc_statements.specs.Continuations as shape
 use Rattle.oc_statements.proofs.Headers.{before_begun, declaration_first}
 use Rattle.oc_statements.proofs.Lone.{simple_begun}
 
@@ -95,7 +95,7 @@ begins_lead (Keyword w.For) h = cc
 begins_lead (Keyword w.Obliv) h = cc
 begins_lead (Keyword _) h = inl refl
 
-express_out : (v : Stmt) (x : List Token) → Begun x → Simple v x → By (λ t. stmt_after t (lead_at t.kind)) v x
+express_out : (v : Stmt) (x : List Token) → Begun x → SimpleStatement v x → By (λ t. stmt_after t (lead_at t.kind)) v x
 express_out v [] b q = absurd b
 express_out v (t ∷ x) b q = go (begins_lead t.kind b)
   where
@@ -154,7 +154,7 @@ tilde_kind k e = go (lead_view k) e
     go is_obliv e = cc
     go is_simple e = cc
 
-pub simple_in : {v : Stmt} {x : List Token} → Simple v x → Statement v x
+pub simple_in : {v : Stmt} {x : List Token} → SimpleStatement v x → Statement v x
 simple_in (shape.empty i) = g.empty i
 simple_in (shape.express d) = g.express d
 simple_in (shape.returns i d) = g.returns i d
@@ -215,7 +215,7 @@ no_statement {k} {v} {x} t us zs n i d e = go (statement_out v x d) e
         let h : t ≡ u = cc in
         let f : u.kind ≡ k = rw (← h) i.kind in
         let a : lead_at u.kind ≡ lead.Simple = rw f n.lead in
-        let c : Simple v (u ∷ ys) = rw a at q in
+        let c : SimpleStatement v (u ∷ ys) = rw a at q in
         let b : begins u.kind ≡ true = simple_begun c (rw f n.simple) in
         let b' : begins u.kind ≡ false = rw f n.begins in
         cc

@@ -14,18 +14,18 @@ use Rattle.oc_grammar.specs.declared.taking.Named.{Named}
 use Rattle.oc_grammar.specs.declared.tables.Opening.TheVariants as o
 use Rattle.oc_grammar.specs.Tokens.{Is, Starts, NotNext}
 use Rattle.oc_grammar.specs.Tables.{opening}
-use Rattle.oc_grammar.specs.Reading.{SameNext, Found, Refused, Leaves, Any, End, ended, Then, then, By, first}
+use Rattle.oc_grammar.specs.Parsing.{SameNext, Found, Refused, Leaves, Any, End, ended, Then, then, By, first}
 use Rattle.oc_grammar.specs.Calls.{One, one, ANamed, a_named}
 use Rattle.oc_grammar.specs.WrittenTypes.{Base}
 use Rattle.oc_grammar.specs.Expressions.{Before, before}
 use Rattle.oc_grammar.specs.Statements.{Declaration, declaration, Condition, condition, Perhaps, absent, given, Init, nothing, declares, expresses}
-use Rattle.oc_grammar.proofs.Reading.{start, also, turned, read, fails, ends, through, through_fails, taken, Goes, sure, Closes, close_end, close_then, then_end, end_is}
+use Rattle.oc_grammar.proofs.Parsing.{start, also, turned, read, fails, ends, through, through_fails, taken, Goes, sure, Closes, close_end, close_then, then_end, end_is}
 use Rattle.oc_grammar.proofs.Calls.{made, is_made, not_next, close_one}
-use Rattle.oc_declarators.specs.Forms.{NoWord, BeforeNoWord, base_after}
+use Rattle.oc_declarators.specs.Continuations.{NoWord, BeforeNoWord, base_after}
 use Rattle.oc_declarators.proofs.Marks.{base_out}
-use Rattle.oc_expressions.specs.Parts.{begins, BeginsType}
+use Rattle.oc_expressions.specs.Continuations.{begins, BeginsType}
 use Rattle.oc_expressions.proofs.Levels.{Begun, begun, begun_append, begins_other, some_before}
-use Rattle.oc_statements.specs.Shapes.{names_after, header, header_form, name_form}
+use Rattle.oc_statements.specs.Continuations.{names_after, header, header_form, name_form}
 use Rattle.oc_statements.proofs.Declaring.{names_word, some_names}
 
 -- ---- first tokens

@@ -12,18 +12,18 @@ use Rattle.oc_grammar.specs.declared.tables.Opening.TheVariants as o
 use Rattle.oc_grammar.specs.Tokens.{Is, Starts, NotNext, spot_at}
 use Rattle.oc_grammar.specs.Tables.{opening}
 use Rattle.oc_source.specs.Parsed.{stmt}
-use Rattle.oc_grammar.specs.Reading.{SameNext, Found, Refused, Leaves, Then, then, By, first}
+use Rattle.oc_grammar.specs.Parsing.{SameNext, Found, Refused, Leaves, Then, then, By, first}
 use Rattle.oc_grammar.specs.Calls.{One, one}
 use Rattle.oc_grammar.specs.WrittenTypes.{Base}
 use Rattle.oc_grammar.specs.Statements.{Declaration, Condition, Statement, Block, Closed, braces, no_step}
 use Rattle.oc_grammar.specs.Statements as g
-use Rattle.oc_grammar.proofs.Reading.{start, also, read, fails, taken, Goes}
+use Rattle.oc_grammar.proofs.Parsing.{start, also, read, fails, taken, Goes}
 use Rattle.oc_grammar.proofs.Calls.{not_next}
-use Rattle.oc_declarators.specs.Forms.{BeforeNoWord, base_after, after_obliv}
+use Rattle.oc_declarators.specs.Continuations.{BeforeNoWord, base_after, after_obliv}
 use Rattle.oc_declarators.proofs.Marks.{base_in, base_out}
-use Rattle.oc_expressions.specs.Parts.{begins, BeginsType}
+use Rattle.oc_expressions.specs.Continuations.{begins, BeginsType}
 use Rattle.oc_expressions.proofs.Levels.{Begun, begun_append, begins_other}
-use Rattle.oc_statements.specs.Shapes.{lead_at, declare_after, if_after, Step, declares, states, stmt_after, OblivAfter, by_if, by_base}
+use Rattle.oc_statements.specs.Continuations.{lead_at, declare_after, if_after, Step, declares, states, stmt_after, OblivAfter, by_if, by_base}
 use Rattle.oc_statements.proofs.Headers.{before_begun, declaration_first, not_type, typed_out, typed_in, base_goes}
 use Rattle.oc_statements.proofs.Grammar.{obliv_in, statement_out}
 

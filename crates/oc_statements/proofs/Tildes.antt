@@ -11,7 +11,7 @@ use Rattle.oc_grammar.specs.Trees.{Leaf, number, character, text, null, truth, f
 use Rattle.oc_grammar.specs.Expressions.{Rule, Expression, before, assign, choose, operation, signed, cast, index, field, arrow, bumped, leaf, named, call, size, parens, at}
 use Rattle.oc_grammar.proofs.Calls.{made, is_made}
 use Rattle.oc_expressions.proofs.Levels.{Begun, begun, begun_append, some_expr}
-use Rattle.oc_statements.specs.Shapes.{Simple, empty, express, returns, breaks, continues}
+use Rattle.oc_statements.specs.Continuations.{SimpleStatement, empty, express, returns, breaks, continues}
 
 -- the first token of a front is that of the whole
 front : (x y : List Token) (t : Token) (ys : List Token) → Begun x → ((zs : List Token) → x ≡ t ∷ zs → Begun zs) → x ++ y ≡ t ∷ ys → Begun ys
@@ -53,16 +53,16 @@ mutual
   second : {n : ℕ} {v : Expr} {x : List Token} → Expression n v x → (t : Token) (ys : List Token) → Is (Sign s.Tilde) t → x ≡ t ∷ ys → Begun ys
   second (at d h) t ys j e = rule_second d t ys j e
 
-simple_second : {v : Stmt} {x : List Token} → Simple v x → (t : Token) (ys : List Token) → Is (Sign s.Tilde) t → x ≡ t ∷ ys → Begun ys
+simple_second : {v : Stmt} {x : List Token} → SimpleStatement v x → (t : Token) (ys : List Token) → Is (Sign s.Tilde) t → x ≡ t ∷ ys → Begun ys
 simple_second (empty i) t ys j e = clash (λ h. cc) i e j
 simple_second (express (before {x = x} d i)) t ys j e = front x _ t ys (begun d) (λ zs g. second d t zs j g) e
 simple_second (returns i d) t ys j e = clash (λ h. cc) i e j
 simple_second (breaks i k) t ys j e = clash (λ h. cc) i e j
 simple_second (continues i k) t ys j e = clash (λ h. cc) i e j
 
-pub tilde_second : {v : Stmt} {t : Token} {ys : List Token} → Is (Sign s.Tilde) t → Simple v (t ∷ ys) → Begun ys
+pub tilde_second : {v : Stmt} {t : Token} {ys : List Token} → Is (Sign s.Tilde) t → SimpleStatement v (t ∷ ys) → Begun ys
 tilde_second {v} {t} {ys} j d = simple_second d t ys j refl
 
 -- some statement begins with it
-pub some_tilde : {t : Token} → Is (Sign s.Tilde) t → (v : Stmt) × (ys : List Token) × Simple v (t ∷ ys)
+pub some_tilde : {t : Token} → Is (Sign s.Tilde) t → (v : Stmt) × (ys : List Token) × SimpleStatement v (t ∷ ys)
 some_tilde {t} i = let (v, x, d) = some_expr 13 (omega arith) in (_, x ++ made (Sign s.Semicolon) ∷ [], express (before (at {n = 1} (signed i refl d) (omega arith)) (is_made (Sign s.Semicolon))))

@@ -1,11 +1,12 @@
 //! Declarations of variables.
 
 ghost use Rattle.std.specs.Prelude.{◌≡◌, ◌<◌, length, IfOk};
-ghost use Rattle.oc_grammar.specs.Reading.{Any};
+ghost use Rattle.oc_grammar.specs.Parsing.{Any};
 ghost use Rattle.oc_grammar.specs.Calls.{Reads};
 ghost use Rattle.oc_grammar.specs.WrittenTypes.{Commas};
 ghost use Rattle.oc_grammar.specs.Statements.{Initialised};
-ghost use Rattle.oc_statements.specs.Shapes.{NameEnds, NamesEnd, names_after, declare_after};
+ghost use Rattle.oc_expressions.specs.Continuations.{ListEnds};
+ghost use Rattle.oc_statements.specs.Continuations.{NameEnds, names_after, declare_after};
 
 use crate::simple::boxed;
 use oc_declarators::declarators::declr;
@@ -43,7 +44,7 @@ fn listed<'t>(
     tokens: &'t [Token],
     base: &BaseName,
 ) -> Result<(Items<Declared>, &'t [Token]), ParseError<'t>>
-    ensures reads { Reads (Commas (Initialised base.now)) NamesEnd tokens.now result }
+    ensures reads { Reads (Commas (Initialised base.now)) ListEnds tokens.now result }
     ensures shorter { IfOk result (λ found. length found.1.now < length tokens.now) }
 {
     let (first, mut rest) = initialised(alloc, tokens, base)?;

@@ -1,13 +1,13 @@
 //! What the first token of a statement says.
 
 ghost use Rattle.std.specs.Prelude.{◌≡◌};
-ghost use Rattle.oc_statements.specs.Shapes.{simple_lead, lead_at};
+ghost use Rattle.oc_statements.specs.Continuations.{simple_lead, lead_at};
 
 use oc_lexer::{Keyword, Sign, TokenKind};
 
 /// What a token begins among the statements that have no statements as parts.
 #[derive(Clone, Copy, Debug, PartialEq, Eq)]
-pub enum Simple {
+pub enum SimpleLead {
     Empty,
     Return,
     Break,
@@ -30,22 +30,22 @@ pub enum Lead {
 }
 
 /// What a token begins among the statements that have no statements as parts.
-pub fn simple_lead(kind: &TokenKind) -> Simple
+pub fn simple_lead(kind: &TokenKind) -> SimpleLead
     ensures { result ≡ simple_lead kind.now }
 {
     match kind {
         TokenKind::Sign(sign) => match sign {
-            Sign::Semicolon => Simple::Empty,
-            _ => Simple::Express,
+            Sign::Semicolon => SimpleLead::Empty,
+            _ => SimpleLead::Express,
         },
         TokenKind::Keyword(word) => match word {
-            Keyword::Return => Simple::Return,
-            Keyword::Break => Simple::Break,
-            Keyword::Continue => Simple::Continue,
-            _ => Simple::Express,
+            Keyword::Return => SimpleLead::Return,
+            Keyword::Break => SimpleLead::Break,
+            Keyword::Continue => SimpleLead::Continue,
+            _ => SimpleLead::Express,
         },
         TokenKind::Name(_) | TokenKind::Number(_) | TokenKind::Character(_) | TokenKind::Text(_) =>
-            Simple::Express,
+            SimpleLead::Express,
     }
 }
 

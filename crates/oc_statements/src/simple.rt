@@ -2,16 +2,16 @@
 
 ghost use Rattle.std.specs.Prelude.{◌≡◌, ◌<◌, false, length, IfOk};
 ghost use Rattle.oc_lexer.specs.declared.token.TokenKind.TheVariants as kind;
-ghost use Rattle.oc_grammar.specs.Reading.{Any};
+ghost use Rattle.oc_grammar.specs.Parsing.{Any};
 ghost use Rattle.oc_grammar.specs.Calls.{Reads};
 ghost use Rattle.oc_grammar.specs.Tables.{strength};
-ghost use Rattle.oc_expressions.specs.Parts.{begins};
+ghost use Rattle.oc_expressions.specs.Continuations.{begins};
 ghost use Rattle.oc_source.specs.Parsed.{stmt};
 ghost use Rattle.oc_grammar.specs.Statements.{Condition, Perhaps, Init};
-ghost use Rattle.oc_statements.specs.Shapes.{Simple as SimpleStatement, header_form, name_form};
+ghost use Rattle.oc_statements.specs.Continuations.{SimpleStatement, header_form, name_form};
 
 use crate::declarations::names;
-use crate::leads::{Simple, simple_lead};
+use crate::leads::{SimpleLead, simple_lead};
 use oc_declarators::bases::base;
 use oc_expressions::expressions::before;
 use oc_expressions::signs::begins_type;
@@ -78,7 +78,7 @@ fn init<'t>(alloc: Global, tokens: &'t [Token]) -> Result<(ForInit, &'t [Token])
     ensures shorter { IfOk result (λ found. length found.1.now < length tokens.now) }
 {
     if begins_type(tokens) {
-        let (base, rest) = base(alloc, tokens)?;
+        let (base, rest) = base(tokens)?;
         let (found, rest) = names(alloc, rest, &base)?;
         return Ok((ForInit::Declare(found), rest));
     }
@@ -118,7 +118,7 @@ pub fn name_in_parens<'t>(
     ensures shorter { IfOk result (λ found. length found.1.now < length tokens.now) }
 {
     let rest = expect(tokens, Sign::LeftParen)?;
-    let (named, rest) = name(alloc, rest)?;
+    let (named, rest) = name(rest)?;
     let rest = expect(rest, Sign::RightParen)?;
     Ok((named.name, rest))
 }
@@ -135,20 +135,20 @@ pub fn simple<'t>(
         return Err(ParseError::Unexpected(tokens));
     };
     match simple_lead(&token.kind) {
-        Simple::Empty => Ok((boxed(alloc, token.spot, StmtNode::Empty)?, rest)),
-        Simple::Return => {
+        SimpleLead::Empty => Ok((boxed(alloc, token.spot, StmtNode::Empty)?, rest)),
+        SimpleLead::Return => {
             let (value, rest) = perhaps(alloc, rest, Sign::Semicolon)?;
             Ok((boxed(alloc, token.spot, StmtNode::Return(value))?, rest))
         }
-        Simple::Break => {
+        SimpleLead::Break => {
             let rest = expect(rest, Sign::Semicolon)?;
             Ok((boxed(alloc, token.spot, StmtNode::Break)?, rest))
         }
-        Simple::Continue => {
+        SimpleLead::Continue => {
             let rest = expect(rest, Sign::Semicolon)?;
             Ok((boxed(alloc, token.spot, StmtNode::Continue)?, rest))
         }
-        Simple::Express => {
+        SimpleLead::Express => {
             let (value, rest) = before(alloc, tokens, Sign::Semicolon)?;
             Ok((boxed(alloc, token.spot, StmtNode::Express(value))?, rest))
         }

@@ -1,11 +1,11 @@
 //! Statements, one reading call a rule of the grammar.
 
 ghost use Rattle.std.specs.Prelude.{◌≡◌, ◌<◌, ◌≤◌, [], length, IfOk};
-ghost use Rattle.oc_grammar.specs.Reading.{Any};
+ghost use Rattle.oc_grammar.specs.Parsing.{Any};
 ghost use Rattle.oc_grammar.specs.Calls.{Reads};
 ghost use Rattle.oc_grammar.specs.Statements.{Statement, Closed, Block};
 ghost use Rattle.oc_source.specs.Parsed.{stmt};
-ghost use Rattle.oc_statements.specs.Shapes.{if_node, if_after, while_after, for_after, always_after, Run, Step};
+ghost use Rattle.oc_statements.specs.Continuations.{if_node, if_after, while_after, for_after, always_after, Run, Step};
 
 use crate::declarations::declare;
 use crate::leads::{Lead, lead_at};
@@ -57,8 +57,8 @@ pub fn stmt<'t>(
             Ok((boxed(alloc, token.spot, StmtNode::Block(steps))?, rest))
         }
         Lead::If => conditional(alloc, rest, token.spot, false),
-        Lead::While => repeated(alloc, rest, token.spot),
-        Lead::For => counted(alloc, rest, token.spot),
+        Lead::While => while_loop(alloc, rest, token.spot),
+        Lead::For => for_loop(alloc, rest, token.spot),
         Lead::Obliv => {
             let rest = expect_word(rest, Keyword::If)?;
             conditional(alloc, rest, token.spot, true)
@@ -96,7 +96,7 @@ fn conditional<'t>(
 
 // Reads what comes after `while`.
 #[cycle(stmt)]
-fn repeated<'t>(
+fn while_loop<'t>(
     alloc: Global,
     tokens: &'t [Token],
     spot: Spot,
@@ -112,7 +112,7 @@ fn repeated<'t>(
 
 // Reads what comes after `for`.
 #[cycle(stmt)]
-fn counted<'t>(
+fn for_loop<'t>(
     alloc: Global,
     tokens: &'t [Token],
     spot: Spot,
@@ -208,7 +208,7 @@ fn step<'t>(
         },
         None => {
             if begins_type(tokens) {
-                let (base, rest) = base(alloc, tokens)?;
+                let (base, rest) = base(tokens)?;
                 declare(alloc, rest, &base)
             } else {
                 stmt(alloc, tokens)

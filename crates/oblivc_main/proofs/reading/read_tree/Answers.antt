@@ -10,7 +10,7 @@ use Rattle.oc_lexer.specs.Sources.{Spells, HasNoTokens}
 use Rattle.oc_grammar.specs.Headings.{Derives}
 use Rattle.oc_parser.specs.declared.faults.ParseRule.{ParseRule}
 use Rattle.oc_parser.specs.Load.{IsLight}
-use Rattle.oc_parser.specs.Refusals.{IfRefused as IfUnparsed, Refuses as HasNoTree}
+use Rattle.oc_parser.specs.Refusals.{IfRefused as IfUnparsed, HasNoTree}
 use Rattle.first_form.specs.First.{First}
 use Rattle.oblivc_main.specs.Sources.{ReadsTree, IsLexed, IsParsed}
 use Rattle.oblivc_main.proofs.Refusing.{lex_refuses, parse_refuses, parsed, form_refuses, accepts}

@@ -1,5 +1,5 @@
 use Rattle.std.proofs.Common.{sym, ◌∙◌}
-use Rattle.oc_grammar.proofs.Reading.{by_end, by_none, by_left, through, through_fails}
+use Rattle.oc_grammar.proofs.Parsing.{by_end, by_none, by_left, through, through_fails}
 use Rattle.oc_grammar.proofs.Calls.{error_on}
 use Rattle.oc_declarators.proofs.Marks.{obliv_opened, some_words, ints_marked, ints_fail, only_marked_obliv, marked_obliv}
 use Rattle.oc_declarators.proofs.bases.after_obliv.Goals as goal

@@ -1,5 +1,5 @@
 use Rattle.std.proofs.Common.{sym, ◌∙◌}
-use Rattle.oc_grammar.proofs.Reading.{by_end, by_none, by_left, through, through_fails}
+use Rattle.oc_grammar.proofs.Parsing.{by_end, by_none, by_left, through, through_fails}
 use Rattle.oc_grammar.proofs.Calls.{mapped}
 use Rattle.oc_declarators.proofs.Marks.{base_opened, some_base, only_marked_base, marked_base}
 use Rattle.oc_declarators.proofs.bases.base.Goals as goal

@@ -1,7 +1,7 @@
 use Rattle.std.proofs.Common.{◌≤◌, length}
-use Rattle.oc_grammar.specs.Reading.{Leaves, Loop}
+use Rattle.oc_grammar.specs.Parsing.{Leaves, Loop}
 use Rattle.oc_grammar.specs.WrittenTypes.{Dims}
-use Rattle.oc_declarators.specs.Forms.{NoBracket}
+use Rattle.oc_declarators.specs.Continuations.{NoBracket}
 use Rattle.oc_declarators.proofs.Names.{DimStep}
 use Rattle.oc_declarators.proofs.declarators.dims.Given as goal
 

@@ -1,7 +1,7 @@
 use Rattle.std.proofs.Common.{◌≤◌, length}
-use Rattle.oc_grammar.specs.Reading.{Leaves, Loop}
+use Rattle.oc_grammar.specs.Parsing.{Leaves, Loop}
 use Rattle.oc_grammar.specs.WrittenTypes.{Stars}
-use Rattle.oc_declarators.specs.Forms.{NoStar}
+use Rattle.oc_declarators.specs.Continuations.{NoStar}
 use Rattle.oc_declarators.proofs.Names.{StarStep}
 use Rattle.oc_declarators.proofs.declarators.stars.Given as goal
 

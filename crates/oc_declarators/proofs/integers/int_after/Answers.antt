@@ -1,4 +1,4 @@
-use Rattle.oc_grammar.proofs.Reading.{start, ends}
+use Rattle.oc_grammar.proofs.Parsing.{start, ends}
 use Rattle.oc_declarators.proofs.integers.int_after.Goals as goal
 
 pub returns-in-Bool : goal.returns-in-Bool

@@ -1,8 +1,8 @@
 use Rattle.std.proofs.Common.{arith, ap, length}
-use Rattle.oc_grammar.proofs.Reading.{through, through_fails}
+use Rattle.oc_grammar.proofs.Parsing.{through, through_fails}
 use Rattle.oc_grammar.proofs.Calls.{error_on, mapped}
 use Rattle.oc_grammar.proofs.Lists as list
-use Rattle.oc_grammar.specs.Expressions.{Expression, Stops}
+use Rattle.oc_grammar.specs.Expressions.{Expression, BindsWeaker}
 use Rattle.oc_expressions.proofs.Choosing as choose
 use Rattle.oc_expressions.proofs.Operators as operator
 use Rattle.oc_expressions.proofs.Turns as turn
@@ -158,13 +158,13 @@ primary-returns-in-Keyword-clause-reads t c = turn.primary_none c.in-Some.ensure
 -- ---- calls
 
 pub call-returns-in_ok-boxed-in-None-clause-reads : goal.call-returns-in_ok-boxed-in-None-clause-reads
-call-returns-in_ok-boxed-in-None-clause-reads t c = rw (c.in_ok-boxed-in-None.ensures, c.in_ok-name.ensures, c.as_bytes.ensures) (turn.call_alone _ _ c.in-None.ensures)
+call-returns-in_ok-boxed-in-None-clause-reads t c = rw (c.in_ok-boxed-in-None.ensures, c.in_ok-name.ensures) (turn.call_alone _ _ c.in-None.ensures)
 
 pub call-returns-in_err-args-in-Some-clause-reads : goal.call-returns-in_err-args-in-Some-clause-reads
 call-returns-in_err-args-in-Some-clause-reads t c = error_on _ _ _ _ _ _ _ _ c.from_residual-in_err-args-in-Some.ensures.1 c.in_err-args-in-Some.ensures.reads (λ rest f. turn.call_fails _ _ c.in-Some.ensures f)
 
 pub call-returns-in_ok-boxed-in-Some-clause-reads : goal.call-returns-in_ok-boxed-in-Some-clause-reads
-call-returns-in_ok-boxed-in-Some-clause-reads t c = rw (c.in_ok-boxed-in-Some.ensures, c.in_ok-name.ensures, c.as_bytes.ensures) (turn.call_read _ _ c.in-Some.ensures c.in_ok-args-in-Some.ensures.reads)
+call-returns-in_ok-boxed-in-Some-clause-reads t c = rw (c.in_ok-boxed-in-Some.ensures, c.in_ok-name.ensures) (turn.call_read _ _ c.in-Some.ensures c.in_ok-args-in-Some.ensures.reads)
 
 pub arguments-returns-in-Some-clause-reads : goal.arguments-returns-in-Some-clause-reads
 arguments-returns-in-Some-clause-reads t c = rw c.new.ensures (turn.args_none c.in-Some.ensures)
@@ -179,16 +179,16 @@ pub arguments-returns-in_ok-rest-in-None-clause-reads : goal.arguments-returns-i
 arguments-returns-in_ok-rest-in-None-clause-reads t c = turn.args_read c.in-None.ensures c.in_ok-args-in-None.ensures.reads c.in_ok-rest-in-None.ensures
 
 pub listed-returns-in_err-first-clause-reads : goal.listed-returns-in_err-first-clause-reads
-listed-returns-in_err-first-clause-reads t c = error_on _ _ _ _ _ _ _ _ c.from_residual.ensures.1 c.in_err-first.ensures.reads (λ rest f. list.list_fails (Expression 1) (Stops 1) turn.comma_stops _ f)
+listed-returns-in_err-first-clause-reads t c = error_on _ _ _ _ _ _ _ _ c.from_residual.ensures.1 c.in_err-first.ensures.reads (λ rest f. list.list_fails (Expression 1) (BindsWeaker 1) turn.comma_stops _ f)
 
 pub listed-loop-after-init : goal.listed-loop-after-init
-listed-loop-after-init t c = record { reads = rw (c.in_ok-push.ensures.ok, c.new-found.ensures, c.into_inner.ensures) (list.list_first (Expression 1) (Stops 1) turn.comma_stops _ c.in_ok-first.ensures.reads); shorter = c.in_ok-first.ensures.shorter }
+listed-loop-after-init t c = record { reads = rw (c.in_ok-push.ensures.ok, c.new-found.ensures, c.into_inner.ensures) (list.list_first (Expression 1) (BindsWeaker 1) turn.comma_stops _ c.in_ok-first.ensures.reads); shorter = c.in_ok-first.ensures.shorter }
 
 pub listed-returns-in_err-more-clause-reads : goal.listed-returns-in_err-more-clause-reads
-listed-returns-in_err-more-clause-reads t c = error_on _ _ _ _ _ _ _ _ c.from_residual-in_err-more.ensures.1 c.in_err-more.ensures.reads (λ rest f. list.more_fails (Expression 1) (Stops 1) turn.comma_stops _ c.loop-after.invariant.reads c.in-Some.ensures f)
+listed-returns-in_err-more-clause-reads t c = error_on _ _ _ _ _ _ _ _ c.from_residual-in_err-more.ensures.1 c.in_err-more.ensures.reads (λ rest f. list.more_fails (Expression 1) (BindsWeaker 1) turn.comma_stops _ c.loop-after.invariant.reads c.in-Some.ensures f)
 
 pub listed-loop-after-preserved : goal.listed-loop-after-preserved
-listed-loop-after-preserved t c = record { reads = rw (c.in_ok-push-2.ensures.ok, c.into_inner-in-Some.ensures) (list.more_read (Expression 1) (Stops 1) turn.comma_stops _ c.loop-after.invariant.reads c.in-Some.ensures c.in_ok-more.ensures.reads); shorter = omega (arith, ap length c.in-Some.ensures.whole, c.in_ok-more.ensures.shorter, c.loop-after.invariant.shorter) }
+listed-loop-after-preserved t c = record { reads = rw (c.in_ok-push-2.ensures.ok, c.into_inner-in-Some.ensures) (list.more_read (Expression 1) (BindsWeaker 1) turn.comma_stops _ c.loop-after.invariant.reads c.in-Some.ensures c.in_ok-more.ensures.reads); shorter = omega (arith, ap length c.in-Some.ensures.whole, c.in_ok-more.ensures.shorter, c.loop-after.invariant.shorter) }
 
 pub listed-returns-clause-reads : goal.listed-returns-clause-reads
-listed-returns-clause-reads t c = list.list_done (Expression 1) (Stops 1) turn.comma_stops _ c.loop-after.invariant.reads c.in_default.ensures
+listed-returns-clause-reads t c = list.list_done (Expression 1) (BindsWeaker 1) turn.comma_stops _ c.loop-after.invariant.reads c.in_default.ensures

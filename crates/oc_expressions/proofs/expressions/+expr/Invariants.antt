@@ -1,10 +1,10 @@
 use Rattle.std.proofs.Common.{◌≡◌, ℕ, ◌+◌, ◌<◌, ◌≤◌, length, ◌*◌}
-use Rattle.oc_grammar.specs.Reading.{Leaves, Loop}
+use Rattle.oc_grammar.specs.Parsing.{Leaves, Loop}
 use Rattle.oc_grammar.specs.Tokens.{spot_at}
 use Rattle.oc_grammar.specs.WrittenTypes.{Commas}
 use Rattle.oc_grammar.specs.Expressions.{Expression, Ends}
 use Rattle.oc_grammar.proofs.Lists.{CommaStep}
-use Rattle.oc_expressions.specs.Parts.{Below, postfixes, ListEnds}
+use Rattle.oc_expressions.specs.Continuations.{Below, postfixes, ListEnds}
 use Rattle.oc_expressions.proofs.Operators.{Rest}
 use Rattle.oc_expressions.proofs.expressions.+expr.Given as goal
 

@@ -1,4 +1,4 @@
-use Rattle.oc_expressions.specs.Parts.{leaf_of}
+use Rattle.oc_expressions.specs.Continuations.{leaf_of}
 use Rattle.oc_expressions.proofs.leaves.leaf.Goals as goal
 
 pub returns-in_ok-boxed-in-Some : goal.returns-in_ok-boxed-in-Some

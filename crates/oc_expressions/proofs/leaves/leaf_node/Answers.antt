@@ -8,4 +8,4 @@ pub returns-in-Character : goal.returns-in-Character
 returns-in-Character c = rw c.in-Character.is (character _ c.small.ensures.kind c.small.ensures.value)
 
 pub returns-in_ok-text-in-Text : goal.returns-in_ok-text-in-Text
-returns-in_ok-text-in-Text c = rw (c.in-Text.is, c.in_ok-text-in-Text.ensures, c.as_bytes.ensures) (text _)
+returns-in_ok-text-in-Text c = rw (c.in-Text.is, c.in_ok-text-in-Text.ensures) (text _)

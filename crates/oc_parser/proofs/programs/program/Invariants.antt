@@ -1,5 +1,5 @@
 use Rattle.std.proofs.Common.{length}
-use Rattle.oc_grammar.specs.Reading.{Leaves}
+use Rattle.oc_grammar.specs.Parsing.{Leaves}
 use Rattle.oc_parser.specs.Programs.{Whole, AtEnd}
 use Rattle.oc_parser.proofs.Wholes.{Further}
 use Rattle.oc_parser.proofs.programs.program.Given as goal

@@ -1,5 +1,5 @@
 use Rattle.std.proofs.Common.{arith, sym, ◌∙◌}
-use Rattle.oc_grammar.proofs.Reading.{through, through_fails}
+use Rattle.oc_grammar.proofs.Parsing.{through, through_fails}
 use Rattle.oc_grammar.proofs.Calls.{error_on, mapped}
 use Rattle.oc_statements.proofs.Blocks as block
 use Rattle.oc_statements.proofs.Branching as branch
@@ -23,10 +23,10 @@ pub stmt-returns-in-If-clause-reads : goal.stmt-returns-in-If-clause-reads
 stmt-returns-in-If-clause-reads t c = let l = turn.lead_left c.in-Some.ensures (sym c.in-If.ensures) in mapped _ _ _ _ _ _ _ c.conditional.ensures.reads (λ v r f. through l f) (λ r f. through_fails l f)
 
 pub stmt-returns-in-While-clause-reads : goal.stmt-returns-in-While-clause-reads
-stmt-returns-in-While-clause-reads t c = let l = turn.lead_left c.in-Some.ensures (sym c.in-While.ensures) in mapped _ _ _ _ _ _ _ c.repeated.ensures.reads (λ v r f. through l f) (λ r f. through_fails l f)
+stmt-returns-in-While-clause-reads t c = let l = turn.lead_left c.in-Some.ensures (sym c.in-While.ensures) in mapped _ _ _ _ _ _ _ c.while_loop.ensures.reads (λ v r f. through l f) (λ r f. through_fails l f)
 
 pub stmt-returns-in-For-clause-reads : goal.stmt-returns-in-For-clause-reads
-stmt-returns-in-For-clause-reads t c = let l = turn.lead_left c.in-Some.ensures (sym c.in-For.ensures) in mapped _ _ _ _ _ _ _ c.counted.ensures.reads (λ v r f. through l f) (λ r f. through_fails l f)
+stmt-returns-in-For-clause-reads t c = let l = turn.lead_left c.in-Some.ensures (sym c.in-For.ensures) in mapped _ _ _ _ _ _ _ c.for_loop.ensures.reads (λ v r f. through l f) (λ r f. through_fails l f)
 
 pub stmt-returns-in_err-rest-in-Obliv-clause-reads : goal.stmt-returns-in_err-rest-in-Obliv-clause-reads
 stmt-returns-in_err-rest-in-Obliv-clause-reads t c = error_on _ _ _ _ _ _ _ _ c.from_residual-in_err-rest-in-Obliv.ensures.1 c.in_err-rest-in-Obliv.ensures.reads (λ rest f. turn.word_fails c.in-Some.ensures (sym c.in-Obliv.ensures) f)
@@ -71,25 +71,25 @@ conditional-returns-in_ok-branched-in-Some-clause-closed t c = rw c.in_ok-branch
 
 -- ---- `while`
 
-pub repeated-returns-in_err-cond-clause-reads : goal.repeated-returns-in_err-cond-clause-reads
-repeated-returns-in_err-cond-clause-reads t c = error_on _ _ _ _ _ _ _ _ c.from_residual.ensures.1 c.in_err-cond.ensures.reads (λ rest f. branch.while_cond_fails _ f)
+pub while_loop-returns-in_err-cond-clause-reads : goal.while_loop-returns-in_err-cond-clause-reads
+while_loop-returns-in_err-cond-clause-reads t c = error_on _ _ _ _ _ _ _ _ c.from_residual.ensures.1 c.in_err-cond.ensures.reads (λ rest f. branch.while_cond_fails _ f)
 
-pub repeated-returns-in_err-body-clause-reads : goal.repeated-returns-in_err-body-clause-reads
-repeated-returns-in_err-body-clause-reads t c = error_on _ _ _ _ _ _ _ _ c.from_residual-in_err-body.ensures.1 c.in_err-body.ensures.reads (λ rest f. branch.while_body_fails _ c.in_ok-cond.ensures.reads f)
+pub while_loop-returns-in_err-body-clause-reads : goal.while_loop-returns-in_err-body-clause-reads
+while_loop-returns-in_err-body-clause-reads t c = error_on _ _ _ _ _ _ _ _ c.from_residual-in_err-body.ensures.1 c.in_err-body.ensures.reads (λ rest f. branch.while_body_fails _ c.in_ok-cond.ensures.reads f)
 
-pub repeated-returns-clause-reads : goal.repeated-returns-clause-reads
-repeated-returns-clause-reads t c = rw c.in_ok-boxed.ensures (branch.while_read _ c.in_ok-cond.ensures.reads c.in_ok-body.ensures.reads)
+pub while_loop-returns-clause-reads : goal.while_loop-returns-clause-reads
+while_loop-returns-clause-reads t c = rw c.in_ok-boxed.ensures (branch.while_read _ c.in_ok-cond.ensures.reads c.in_ok-body.ensures.reads)
 
 -- ---- `for`
 
-pub counted-returns-in_err-header-clause-reads : goal.counted-returns-in_err-header-clause-reads
-counted-returns-in_err-header-clause-reads t c = error_on _ _ _ _ _ _ _ _ c.from_residual.ensures.1 c.in_err-header.ensures.reads (λ rest f. branch.header_fails _ f)
+pub for_loop-returns-in_err-header-clause-reads : goal.for_loop-returns-in_err-header-clause-reads
+for_loop-returns-in_err-header-clause-reads t c = error_on _ _ _ _ _ _ _ _ c.from_residual.ensures.1 c.in_err-header.ensures.reads (λ rest f. branch.header_fails _ f)
 
-pub counted-returns-in_err-body-clause-reads : goal.counted-returns-in_err-body-clause-reads
-counted-returns-in_err-body-clause-reads t c = error_on _ _ _ _ _ _ _ _ c.from_residual-in_err-body.ensures.1 c.in_err-body.ensures.reads (λ rest f. branch.for_body_fails _ c.in_ok-header.ensures.reads f)
+pub for_loop-returns-in_err-body-clause-reads : goal.for_loop-returns-in_err-body-clause-reads
+for_loop-returns-in_err-body-clause-reads t c = error_on _ _ _ _ _ _ _ _ c.from_residual-in_err-body.ensures.1 c.in_err-body.ensures.reads (λ rest f. branch.for_body_fails _ c.in_ok-header.ensures.reads f)
 
-pub counted-returns-clause-reads : goal.counted-returns-clause-reads
-counted-returns-clause-reads t c = rw c.in_ok-boxed.ensures (branch.for_read _ c.in_ok-header.ensures.reads c.in_ok-body.ensures.reads)
+pub for_loop-returns-clause-reads : goal.for_loop-returns-clause-reads
+for_loop-returns-clause-reads t c = rw c.in_ok-boxed.ensures (branch.for_read _ c.in_ok-header.ensures.reads c.in_ok-body.ensures.reads)
 
 -- ---- `~ obliv`
 

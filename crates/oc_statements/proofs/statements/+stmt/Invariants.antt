@@ -1,6 +1,6 @@
 use Rattle.std.proofs.Common.{◌+◌, ◌≤◌, ◌*◌, [], length}
-use Rattle.oc_grammar.specs.Reading.{Leaves, Any}
-use Rattle.oc_statements.specs.Shapes.{Run}
+use Rattle.oc_grammar.specs.Parsing.{Leaves, Any}
+use Rattle.oc_statements.specs.Continuations.{Run}
 use Rattle.oc_statements.proofs.statements.+stmt.Given as goal
 
 abbrev pub decreases-stmt : goal.decreases-stmt
@@ -9,11 +9,11 @@ decreases-stmt l = 4 * length l.tokens.now
 abbrev pub decreases-conditional : goal.decreases-conditional
 decreases-conditional l = 4 * length l.tokens.now
 
-abbrev pub decreases-repeated : goal.decreases-repeated
-decreases-repeated l = 4 * length l.tokens.now
+abbrev pub decreases-while_loop : goal.decreases-while_loop
+decreases-while_loop l = 4 * length l.tokens.now
 
-abbrev pub decreases-counted : goal.decreases-counted
-decreases-counted l = 4 * length l.tokens.now
+abbrev pub decreases-for_loop : goal.decreases-for_loop
+decreases-for_loop l = 4 * length l.tokens.now
 
 abbrev pub decreases-always : goal.decreases-always
 decreases-always l = 4 * length l.tokens.now
