@@ -1,7 +1,7 @@
 use super::*;
 use oc_cells::FieldType;
-use oc_values::{Boxed, IntKind, Items, Name, NoMemory};
-use std::alloc::{AllocError, Global};
+use oc_values::{IntKind, Items, Name, NoMemory, Shared};
+use std::alloc::Global;
 use std::process::Abort;
 use std::test::Fail;
 
@@ -20,17 +20,17 @@ const BYTE: CType = CType::Int {
     obliv: true,
 };
 
-fn pointer(alloc: Global, frozen: bool, to: CType) -> Result<CType, AllocError> {
+fn pointer(alloc: Global, frozen: bool, to: CType) -> Result<CType, NoMemory> {
     Ok(CType::Pointer {
         frozen,
-        to: Boxed::new(alloc, to)?,
+        to: Shared::new(alloc, to)?,
     })
 }
 
-fn array(alloc: Global, len: u32, of: CType) -> Result<CType, AllocError> {
+fn array(alloc: Global, len: u32, of: CType) -> Result<CType, NoMemory> {
     Ok(CType::Array {
         len,
-        of: Boxed::new(alloc, of)?,
+        of: Shared::new(alloc, of)?,
     })
 }
 
