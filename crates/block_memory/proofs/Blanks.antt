@@ -1,8 +1,7 @@
 -- New cells: their number, their form, and what they are where each kind has one zero.
-use Rattle.std.proofs.Common.{ℕ, ◌*◌, ◌≡◌, refl, sym, ap, ◌∙◌, subst, List, [], ◌∷◌, length, pos, max, Bool, true, false}
+use Rattle.std.proofs.Common.{ℕ, ◌*◌, ◌≡◌, refl, sym, ap, ◌∙◌, subst, List, ◌∷◌, length, max, Bool, true, false}
 use Rattle.oc_values.specs.declared.integers.IntKind.{IntKind}
 use Rattle.oc_cells.specs.declared.types.CType.{CType, Int as CInt, Pointer', Array', Struct, Nothing}
-use Rattle.oc_cells.specs.declared.memory.Address.TheVariants.{Null}
 use Rattle.oc_cells.specs.declared.memory.CellValue.{CellValue}
 use Rattle.oc_cells.specs.declared.memory.CellValue.TheVariants.{Int, Pointer, Hidden}
 use Rattle.oc_cells.specs.declared.memory.Cell.{Cell}

@@ -1,14 +1,10 @@
 -- The number of live cells as blocks are made and end.
-use Rattle.std.proofs.Common.{ℕ, zero, suc, ◌+◌, ◌*◌, ◌≤◌, ◌<◌, ◌^◌, ◌≡◌, refl, sym, ap, ◌∙◌, subst, List, [], ◌∷◌, ◌++◌, length, Option, Some, None, slice_get, slice_set, arith, Bool, max}
+use Rattle.std.proofs.Common.{ℕ, zero, suc, ◌+◌, ◌≤◌, ◌<◌, ◌^◌, ◌≡◌, refl, sym, ap, subst, List, [], ◌∷◌, ◌++◌, length, Option, Some, None, slice_get, slice_set, arith, Bool, max}
 use Rattle.std.specs.Option.{unwrap_or}
-use Rattle.oc_values.specs.declared.integers.IntKind.{IntKind}
-use Rattle.oc_cells.specs.declared.types.CType.{CType}
 use Rattle.oc_cells.specs.declared.memory.Cell.{Cell}
 use Rattle.oc_cells.specs.declared.memory.Block.{Block}
 use Rattle.oc_cells.specs.declared.memory.Block.TheVariants.{Live, Gone}
-use Rattle.oc_cells.specs.Layout.{repeated}
-use Rattle.oc_cells.specs.Memory.{weight, living, blanks, ended}
-use Rattle.oc_cells.proofs.Lengths.{length_repeated}
+use Rattle.oc_cells.specs.Memory.{weight, living, ended}
 use Rattle.oc_cells.proofs.Updates.{set_update}
 
 abbrev pub LengthIn : {H : Type 0} → ℕ → Option (Block H) → Type 0

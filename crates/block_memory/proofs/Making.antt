@@ -11,7 +11,6 @@ use Rattle.oc_cells.specs.declared.types.CType.{CType}
 use Rattle.oc_cells.specs.declared.memory.Block.{Block}
 use Rattle.oc_cells.specs.declared.memory.Cell.{Cell}
 use Rattle.oc_cells.specs.declared.memory.Block.TheVariants.{Live}
-use Rattle.oc_cells.specs.declared.trap.TrapKind.TheVariants.{M4}
 use Rattle.oc_cells.specs.Layout.{repeated}
 use Rattle.oc_cells.specs.Memory.{weight, living, blanks, joined, make_copies}
 use Rattle.oc_cells.proofs.Lengths.{length_repeated}
@@ -89,11 +88,10 @@ module _ {H : Type 0} where
   -- a block that is made with zeros is the memory's own, where each kind has one zero
   pub exactly : (z : IntKind → H → Type 0) (a : Bool) (ls : List CType) (count : ℤ) (r : Result ℕ MakeRefusal) (old new : Memory H) → Makes z a ls count r old new → MakesExactly z a ls count r old new
   exactly z a ls count (Ok number) old new h zero_of one =
-      let k = h.2 in
-      (
+      let k = h.2 in (
         h.0,
         answer_is zero_of a old ls count ∙ ap (λ b. joined zero_of b old.blocks (Live a (blanks zero_of (copies_of ls count)))) h.1
-          ∙ ap (λ cs. Ok (old.blocks ++ Live a cs ∷ [])) (sym (blanks_are zero_of one k.blank)) ∙ ap (λ m. Ok m.blocks) (sym k.added),
+            ∙ ap (λ cs. Ok (old.blocks ++ Live a cs ∷ [])) (sym (blanks_are zero_of one k.blank)) ∙ ap (λ m. Ok m.blocks) (sym k.added),
         replaced old new (old.blocks ++ Live a k.cells ∷ []) k.added,
       )
   exactly z a ls count (Err (Trap kind)) old new h zero_of one =

@@ -1,5 +1,5 @@
 -- Two memories that answer alike.
-use Rattle.std.specs.Prelude.{◌≡◌, ℕ, ℤ, pos, Bool, List, length, slice_get, Option, Some, Ok}
+use Rattle.std.specs.Prelude.{◌≡◌, ℕ, ℤ, pos, Bool, List, length, slice_get, Some, Ok}
 use Rattle.oc_values.specs.declared.integers.IntKind.{IntKind}
 use Rattle.oc_values.specs.Integers.{IsOfKind}
 use Rattle.oc_cells.specs.declared.types.CType.{CType}
@@ -8,7 +8,7 @@ use Rattle.oc_cells.specs.declared.memory.CellValue.{CellValue}
 use Rattle.oc_cells.specs.declared.memory.Cell.{Cell}
 use Rattle.oc_cells.specs.declared.memory.Block.{Block}
 use Rattle.oc_cells.specs.Types.{kind_of}
-use Rattle.oc_cells.specs.Memory.{cell, load, storable, store, put, offset, loadable, all_storable, copyable, copy, ended, free, living, make_copies, is_live}
+use Rattle.oc_cells.specs.Memory.{cell, load, storable, store, put, offset, copyable, copy, ended, free, living, make_copies, is_live}
 use Rattle.oc_cells.specs.Joined.{SameAnswer, SameCell, SameValue, SameMemory}
 
 -- each call answers alike on two memories, and leaves them alike; hidden values are related at the kind of their cell

@@ -243,8 +243,7 @@ impl<'t, C: HiddenCell + Drop> Blocks<'t, C> {
         requires { IsTrue (has_size (leaves self.old.structs ty.now)) }
         ensures { Changes (copy self.old.blocks to from (leaves self.old.structs ty.now)) result self.old self.new }
     {
-        check_loads(&self.blocks, from, &self.structs, ty)?;
-        check_stores(&self.blocks, to, &self.structs, ty)?;
+        self.check_copy(to, from, ty)?;
         copy_all(&mut self.blocks, to, from, count_cells(&self.structs, ty));
         Ok(())
     }

@@ -1,13 +1,13 @@
-use Rattle.std.proofs.Common.{◌≡◌, ap, sym, subst, refl, ◌∙◌, ◌*◌, ◌≤◌, ◌<◌, ◌^◌, length, ℕ, max, pos, true, false, List, ◌++◌, ◌∷◌, [], Ok, Err}
+use Rattle.std.proofs.Common.{◌≡◌, ap, sym, subst, refl, ◌∙◌, ◌*◌, ◌≤◌, ◌<◌, ◌^◌, length, ℕ, max, pos, true, Ok, Err}
 use Rattle.std.proofs.lemmas.Int.{to_z-of_z}
 use Rattle.oc_cells.specs.Layout.{leaves, repeated}
 use Rattle.oc_cells.specs.declared.types.CType.{CType}
 use Rattle.oc_cells.specs.declared.memory.Block.TheVariants.{Live}
 use Rattle.oc_cells.specs.declared.trap.TrapKind.TheVariants.{M4}
-use Rattle.oc_cells.specs.Memory.{living, AllHaveForm, CellsHaveForm}
+use Rattle.oc_cells.specs.Memory.{AllHaveForm}
 use Rattle.oc_cells.proofs.Formed.{form_more}
-use Rattle.block_memory.specs.declared.blocks.MakeRefusal.TheVariants.{Trap, NoMemory}
-use Rattle.block_memory.specs.Content.{Memory, has_room, copies_of, AreBlank, Makes}
+use Rattle.block_memory.specs.declared.blocks.MakeRefusal.TheVariants.{Trap}
+use Rattle.block_memory.specs.Content.{Memory, has_room, AreBlank, Makes}
 use Rattle.block_memory.proofs.Blanks.{weight_of_copies, form_blanks}
 use Rattle.block_memory.proofs.Growing.{all_added}
 use Rattle.block_memory.proofs.Making.{too_many, room_is, copies_are, more_live, exactly, seen}
@@ -26,19 +26,18 @@ pub returns-in_default : goal.returns-in_default
 returns-in_default g c =
     let ls = leaves c.args.self.now.structs c.args.ty.now in
     let m : Makes g.C.HiddenCell.is_zero_of c.args.allocated ls c.args.count (Err (Trap M4)) c.args.self.now c.args.self.now =
-        (refl, too_many c.args.self.now (length ls) c.args.count _ (to_z-of_z _ c.args.count c.ranges.count) c.in_default.ensures (subst (λ m. m.limit < 2 ^ 32) c.self.view_is c.self.invariant.2) (sized _ c.requires).0, refl)
+    (refl, too_many c.args.self.now (length ls) c.args.count _ (to_z-of_z _ c.args.count c.ranges.count) c.in_default.ensures (subst (λ m. m.limit < 2 ^ 32) c.self.view_is c.self.invariant.2) (sized _ c.requires).0, refl)
     in record { makes = m; exactly = exactly _ _ _ _ (Err (Trap M4)) _ _ m }
 
 pub returns-then-not-has_room : goal.returns-then-not-has_room
 returns-then-not-has_room g c =
     let ls = leaves c.args.self.now.structs c.args.ty.now in
     let e = counted c.args.ty.now _ c.self.view_is (c.count_cells-each.ensures.0 (inside c.args.ty.now c.self.view_is (sized _ c.requires).1)) in
-    let m : Makes g.C.HiddenCell.is_zero_of c.args.allocated ls c.args.count (Err (Trap M4)) c.args.self.now c.args.self.now =
-        (
-          refl,
-          room_is c.args.self.now (length ls) c.args.count _ c.in-Ok.copies (to_z-of_z _ c.args.count c.ranges.count) c.in-Ok.ensures ∙ ap (λ k. has_room c.args.self.now k (pos c.in-Ok.copies)) (sym e) ∙ sym c.has_room.ensures ∙ c.if-not-has_room.true,
-          refl,
-        )
+    let m : Makes g.C.HiddenCell.is_zero_of c.args.allocated ls c.args.count (Err (Trap M4)) c.args.self.now c.args.self.now = (
+      refl,
+      room_is c.args.self.now (length ls) c.args.count _ c.in-Ok.copies (to_z-of_z _ c.args.count c.ranges.count) c.in-Ok.ensures ∙ ap (λ k. has_room c.args.self.now k (pos c.in-Ok.copies)) (sym e) ∙ sym c.has_room.ensures ∙ c.if-not-has_room.true,
+      refl,
+    )
     in record { makes = m; exactly = exactly _ _ _ _ (Err (Trap M4)) _ _ m }
 
 pub invariant_of-self-2 : goal.invariant_of-self-2
@@ -61,10 +60,9 @@ returns g c =
     let e = counted c.args.ty.now _ c.self.view_is (c.count_cells-each.ensures.0 (inside c.args.ty.now c.self.view_is (sized _ c.requires).1)) in
     let f = c.in-Ok-push_copies.ensures in
     let blank = subst (λ ks. AreBlank g.C.HiddenCell.is_zero_of ks f.cells) (ap (λ m. repeated c.in-Ok.copies (leaves m.structs c.args.ty.now)) c.self.view_is ∙ copies_are c.args.self.now (length ls) c.args.count _ c.in-Ok.copies ls z c.in-Ok.ensures) f.blank in
-    let m : Makes g.C.HiddenCell.is_zero_of c.args.allocated ls c.args.count (Ok c.len-number.result) c.args.self.now _ =
-        (
-          c.len-number.ensures ∙ ap (λ m. length m.blocks) c.self.view_is,
-          room_is c.args.self.now (length ls) c.args.count _ c.in-Ok.copies z c.in-Ok.ensures ∙ ap (λ k. has_room c.args.self.now k (pos c.in-Ok.copies)) (sym e) ∙ sym c.has_room.ensures ∙ c.if-not-has_room.false,
-          record { cells = f.cells; blank = blank; added = seen c.args.allocated c.push.new.self c.self.view_is c.in-Ok-push.ensures.ok (all_added f c.new-cells.ensures) },
-        )
+    let m : Makes g.C.HiddenCell.is_zero_of c.args.allocated ls c.args.count (Ok c.len-number.result) c.args.self.now _ = (
+      c.len-number.ensures ∙ ap (λ m. length m.blocks) c.self.view_is,
+      room_is c.args.self.now (length ls) c.args.count _ c.in-Ok.copies z c.in-Ok.ensures ∙ ap (λ k. has_room c.args.self.now k (pos c.in-Ok.copies)) (sym e) ∙ sym c.has_room.ensures ∙ c.if-not-has_room.false,
+      record { cells = f.cells; blank = blank; added = seen c.args.allocated c.push.new.self c.self.view_is c.in-Ok-push.ensures.ok (all_added f c.new-cells.ensures) },
+    )
     in record { makes = m; exactly = exactly _ _ _ _ (Ok c.len-number.result) _ _ m }
