@@ -2,11 +2,13 @@
 //!
 //! Nothing here knows of programs. `Items` is a list, `Name` a list of bytes, `NoMemory` the one answer
 //! for want of memory. `IntKind` is a kind of integer of the language, and `wrap`, `convert` and
-//! `public_op` are its arithmetic, by the definitions of `specs/Integers.antt`.
+//! `public_op` are its arithmetic, by the definitions of `specs/Integers.antt`. `packing` puts bits into
+//! bytes (`specs/Packing.antt`).
 #![tactic(auto)]
 
 pub mod integers;
 pub mod lists;
+pub mod packing;
 pub mod shared;
 
 pub use integers::{
