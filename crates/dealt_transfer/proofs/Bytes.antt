@@ -1,68 +1,37 @@
--- A label and its 16 bytes, the lowest first.
-use Rattle.std.proofs.Common.{◌≡◌, ℕ, ◌+◌, ◌*◌, ◌/◌, ◌%◌, ◌^◌, ◌<◌, List, [], ◌∷◌, length, get_or, refl, ap, ◌∙◌, arith}
-use Rattle.std.specs.Int.{w128, from_le_bytes, to_le_bytes}
-use Rattle.std.proofs.lemmas.Nat.{div-mul-add, mod-mul-add}
-use Rattle.std.proofs.Math.Nat as nat
+-- Numbers and their bytes, in either order.
+use Rattle.std.proofs.Common.{◌≡◌, ℕ, zero, suc, ◌+◌, ◌*◌, ◌/◌, ◌%◌, ◌^◌, ◌≤◌, List, ◌∷◌, length, take, drop, get_or, refl, sym, ap, ◌∙◌, arith}
+use Rattle.std.specs.Int.{byte_at, bytes_low_first, bytes_high_first}
+use Rattle.std.proofs.Math.Nat.{pow-succ', div-div-eq-div-mul}
+use Rattle.std.proofs.Math.Seq.{drop-cons}
+use Rattle.std.proofs.lemmas.List.{length-take, get_or-take}
+use Rattle.std.proofs.lemmas.Nat.{be_bytes_4}
+use Rattle.byteorder.specs.Endian.{little_from, big_from}
+use Rattle.oc_values.proofs.Packs.{IsBytes, IsBytes-take}
 
-byte_at : (low p x high n : ℕ) → low < p → x < 256 → n ≡ (high * 256 + x) * p + low → n / p % 256 ≡ x
-byte_at low p x high n below small is = ap (λ m. m / p % 256) is ∙ ap (λ m. m % 256) (div-mul-add (high * 256 + x) p low below) ∙ mod-mul-add high 256 x small
+-- a higher byte of a number is a byte of what stands above its lowest
+byte_at-suc : (j x : ℕ) → byte_at (suc j) x ≡ byte_at j (x / 256)
+byte_at-suc zero x = refl
+byte_at-suc (suc j) x =
+    ap (λ (y : ℕ). y % 256) (ap (λ (p : ℕ). x / p) (pow-succ' 256 (suc j)) ∙ sym (div-div-eq-div-mul x 256 (256 ^ suc j)))
 
-bytes_16 : (b0 b1 b2 b3 b4 b5 b6 b7 b8 b9 b10 b11 b12 b13 b14 b15 n : ℕ) → b0 < 256 → b1 < 256 → b2 < 256 → b3 < 256 → b4 < 256 → b5 < 256 → b6 < 256 → b7 < 256 → b8 < 256 → b9 < 256 → b10 < 256 → b11 < 256 → b12 < 256 → b13 < 256 → b14 < 256 → b15 < 256 → n ≡ b0 + b1 * 256 + b2 * 65536 + b3 * 16777216 + b4 * 4294967296 + b5 * 1099511627776 + b6 * 281474976710656 + b7 * 72057594037927936 + b8 * 18446744073709551616 + b9 * 4722366482869645213696 + b10 * 1208925819614629174706176 + b11 * 309485009821345068724781056 + b12 * 79228162514264337593543950336 + b13 * 20282409603651670423947251286016 + b14 * 5192296858534827628530496329220096 + b15 * 1329227995784915872903807060280344576
-    → (n % 256) ∷ (n / 256 % 256) ∷ (n / 65536 % 256) ∷ (n / 16777216 % 256) ∷ (n / 4294967296 % 256) ∷ (n / 1099511627776 % 256) ∷ (n / 281474976710656 % 256) ∷ (n / 72057594037927936 % 256) ∷ (n / 18446744073709551616 % 256) ∷ (n / 4722366482869645213696 % 256) ∷ (n / 1208925819614629174706176 % 256) ∷ (n / 309485009821345068724781056 % 256) ∷ (n / 79228162514264337593543950336 % 256) ∷ (n / 20282409603651670423947251286016 % 256) ∷ (n / 5192296858534827628530496329220096 % 256) ∷ (n / 1329227995784915872903807060280344576 % 256) ∷ [] ≡ b0 ∷ b1 ∷ b2 ∷ b3 ∷ b4 ∷ b5 ∷ b6 ∷ b7 ∷ b8 ∷ b9 ∷ b10 ∷ b11 ∷ b12 ∷ b13 ∷ b14 ∷ b15 ∷ []
-bytes_16 b0 b1 b2 b3 b4 b5 b6 b7 b8 b9 b10 b11 b12 b13 b14 b15 n b0' b1' b2' b3' b4' b5' b6' b7' b8' b9' b10' b11' b12' b13' b14' b15' is =
-    let split : n ≡ (b1 + b2 * 256 + b3 * 65536 + b4 * 16777216 + b5 * 4294967296 + b6 * 1099511627776 + b7 * 281474976710656 + b8 * 72057594037927936 + b9 * 18446744073709551616 + b10 * 4722366482869645213696 + b11 * 1208925819614629174706176 + b12 * 309485009821345068724781056 + b13 * 79228162514264337593543950336 + b14 * 20282409603651670423947251286016 + b15 * 5192296858534827628530496329220096) * 256 + b0 = omega arith in
-    let at_0 : n % 256 ≡ b0 = ap (λ m. m % 256) split ∙ mod-mul-add (b1 + b2 * 256 + b3 * 65536 + b4 * 16777216 + b5 * 4294967296 + b6 * 1099511627776 + b7 * 281474976710656 + b8 * 72057594037927936 + b9 * 18446744073709551616 + b10 * 4722366482869645213696 + b11 * 1208925819614629174706176 + b12 * 309485009821345068724781056 + b13 * 79228162514264337593543950336 + b14 * 20282409603651670423947251286016 + b15 * 5192296858534827628530496329220096) 256 b0 b0' in
-    let at_1 = byte_at (b0) 256 b1 (b2 + b3 * 256 + b4 * 65536 + b5 * 16777216 + b6 * 4294967296 + b7 * 1099511627776 + b8 * 281474976710656 + b9 * 72057594037927936 + b10 * 18446744073709551616 + b11 * 4722366482869645213696 + b12 * 1208925819614629174706176 + b13 * 309485009821345068724781056 + b14 * 79228162514264337593543950336 + b15 * 20282409603651670423947251286016) n (omega arith) b1' (omega arith) in
-    let at_2 = byte_at (b0 + b1 * 256) 65536 b2 (b3 + b4 * 256 + b5 * 65536 + b6 * 16777216 + b7 * 4294967296 + b8 * 1099511627776 + b9 * 281474976710656 + b10 * 72057594037927936 + b11 * 18446744073709551616 + b12 * 4722366482869645213696 + b13 * 1208925819614629174706176 + b14 * 309485009821345068724781056 + b15 * 79228162514264337593543950336) n (omega arith) b2' (omega arith) in
-    let at_3 = byte_at (b0 + b1 * 256 + b2 * 65536) 16777216 b3 (b4 + b5 * 256 + b6 * 65536 + b7 * 16777216 + b8 * 4294967296 + b9 * 1099511627776 + b10 * 281474976710656 + b11 * 72057594037927936 + b12 * 18446744073709551616 + b13 * 4722366482869645213696 + b14 * 1208925819614629174706176 + b15 * 309485009821345068724781056) n (omega arith) b3' (omega arith) in
-    let at_4 = byte_at (b0 + b1 * 256 + b2 * 65536 + b3 * 16777216) 4294967296 b4 (b5 + b6 * 256 + b7 * 65536 + b8 * 16777216 + b9 * 4294967296 + b10 * 1099511627776 + b11 * 281474976710656 + b12 * 72057594037927936 + b13 * 18446744073709551616 + b14 * 4722366482869645213696 + b15 * 1208925819614629174706176) n (omega arith) b4' (omega arith) in
-    let at_5 = byte_at (b0 + b1 * 256 + b2 * 65536 + b3 * 16777216 + b4 * 4294967296) 1099511627776 b5 (b6 + b7 * 256 + b8 * 65536 + b9 * 16777216 + b10 * 4294967296 + b11 * 1099511627776 + b12 * 281474976710656 + b13 * 72057594037927936 + b14 * 18446744073709551616 + b15 * 4722366482869645213696) n (omega arith) b5' (omega arith) in
-    let at_6 = byte_at (b0 + b1 * 256 + b2 * 65536 + b3 * 16777216 + b4 * 4294967296 + b5 * 1099511627776) 281474976710656 b6 (b7 + b8 * 256 + b9 * 65536 + b10 * 16777216 + b11 * 4294967296 + b12 * 1099511627776 + b13 * 281474976710656 + b14 * 72057594037927936 + b15 * 18446744073709551616) n (omega arith) b6' (omega arith) in
-    let at_7 = byte_at (b0 + b1 * 256 + b2 * 65536 + b3 * 16777216 + b4 * 4294967296 + b5 * 1099511627776 + b6 * 281474976710656) 72057594037927936 b7 (b8 + b9 * 256 + b10 * 65536 + b11 * 16777216 + b12 * 4294967296 + b13 * 1099511627776 + b14 * 281474976710656 + b15 * 72057594037927936) n (omega arith) b7' (omega arith) in
-    let at_8 = byte_at (b0 + b1 * 256 + b2 * 65536 + b3 * 16777216 + b4 * 4294967296 + b5 * 1099511627776 + b6 * 281474976710656 + b7 * 72057594037927936) 18446744073709551616 b8 (b9 + b10 * 256 + b11 * 65536 + b12 * 16777216 + b13 * 4294967296 + b14 * 1099511627776 + b15 * 281474976710656) n (omega arith) b8' (omega arith) in
-    let at_9 = byte_at (b0 + b1 * 256 + b2 * 65536 + b3 * 16777216 + b4 * 4294967296 + b5 * 1099511627776 + b6 * 281474976710656 + b7 * 72057594037927936 + b8 * 18446744073709551616) 4722366482869645213696 b9 (b10 + b11 * 256 + b12 * 65536 + b13 * 16777216 + b14 * 4294967296 + b15 * 1099511627776) n (omega arith) b9' (omega arith) in
-    let at_10 = byte_at (b0 + b1 * 256 + b2 * 65536 + b3 * 16777216 + b4 * 4294967296 + b5 * 1099511627776 + b6 * 281474976710656 + b7 * 72057594037927936 + b8 * 18446744073709551616 + b9 * 4722366482869645213696) 1208925819614629174706176 b10 (b11 + b12 * 256 + b13 * 65536 + b14 * 16777216 + b15 * 4294967296) n (omega arith) b10' (omega arith) in
-    let at_11 = byte_at (b0 + b1 * 256 + b2 * 65536 + b3 * 16777216 + b4 * 4294967296 + b5 * 1099511627776 + b6 * 281474976710656 + b7 * 72057594037927936 + b8 * 18446744073709551616 + b9 * 4722366482869645213696 + b10 * 1208925819614629174706176) 309485009821345068724781056 b11 (b12 + b13 * 256 + b14 * 65536 + b15 * 16777216) n (omega arith) b11' (omega arith) in
-    let at_12 = byte_at (b0 + b1 * 256 + b2 * 65536 + b3 * 16777216 + b4 * 4294967296 + b5 * 1099511627776 + b6 * 281474976710656 + b7 * 72057594037927936 + b8 * 18446744073709551616 + b9 * 4722366482869645213696 + b10 * 1208925819614629174706176 + b11 * 309485009821345068724781056) 79228162514264337593543950336 b12 (b13 + b14 * 256 + b15 * 65536) n (omega arith) b12' (omega arith) in
-    let at_13 = byte_at (b0 + b1 * 256 + b2 * 65536 + b3 * 16777216 + b4 * 4294967296 + b5 * 1099511627776 + b6 * 281474976710656 + b7 * 72057594037927936 + b8 * 18446744073709551616 + b9 * 4722366482869645213696 + b10 * 1208925819614629174706176 + b11 * 309485009821345068724781056 + b12 * 79228162514264337593543950336) 20282409603651670423947251286016 b13 (b14 + b15 * 256) n (omega arith) b13' (omega arith) in
-    let at_14 = byte_at (b0 + b1 * 256 + b2 * 65536 + b3 * 16777216 + b4 * 4294967296 + b5 * 1099511627776 + b6 * 281474976710656 + b7 * 72057594037927936 + b8 * 18446744073709551616 + b9 * 4722366482869645213696 + b10 * 1208925819614629174706176 + b11 * 309485009821345068724781056 + b12 * 79228162514264337593543950336 + b13 * 20282409603651670423947251286016) 5192296858534827628530496329220096 b14 (b15) n (omega arith) b14' (omega arith) in
-    let at_15 = byte_at (b0 + b1 * 256 + b2 * 65536 + b3 * 16777216 + b4 * 4294967296 + b5 * 1099511627776 + b6 * 281474976710656 + b7 * 72057594037927936 + b8 * 18446744073709551616 + b9 * 4722366482869645213696 + b10 * 1208925819614629174706176 + b11 * 309485009821345068724781056 + b12 * 79228162514264337593543950336 + b13 * 20282409603651670423947251286016 + b14 * 5192296858534827628530496329220096) 1329227995784915872903807060280344576 b15 0 n (omega arith) b15' (omega arith) in
-    λ i. at_0 i ∷ at_1 i ∷ at_2 i ∷ at_3 i ∷ at_4 i ∷ at_5 i ∷ at_6 i ∷ at_7 i ∷ at_8 i ∷ at_9 i ∷ at_10 i ∷ at_11 i ∷ at_12 i ∷ at_13 i ∷ at_14 i ∷ at_15 i ∷ []
+low_first-suc : (j k x : ℕ) → bytes_low_first (suc j) k x ≡ bytes_low_first j k (x / 256)
+low_first-suc j zero x = refl
+low_first-suc j (suc k) x = λ i. byte_at-suc j x i ∷ low_first-suc (suc j) k x i
 
-written_16 : (bs : List ℕ) → length bs ≡ 16 → get_or bs 0 0 ∷ get_or bs 1 0 ∷ get_or bs 2 0 ∷ get_or bs 3 0 ∷ get_or bs 4 0 ∷ get_or bs 5 0 ∷ get_or bs 6 0 ∷ get_or bs 7 0 ∷ get_or bs 8 0 ∷ get_or bs 9 0 ∷ get_or bs 10 0 ∷ get_or bs 11 0 ∷ get_or bs 12 0 ∷ get_or bs 13 0 ∷ get_or bs 14 0 ∷ get_or bs 15 0 ∷ [] ≡ bs
-written_16 [] l = absurd (omega arith)
-written_16 (b0 ∷ []) l = absurd (omega arith)
-written_16 (b0 ∷ b1 ∷ []) l = absurd (omega arith)
-written_16 (b0 ∷ b1 ∷ b2 ∷ []) l = absurd (omega arith)
-written_16 (b0 ∷ b1 ∷ b2 ∷ b3 ∷ []) l = absurd (omega arith)
-written_16 (b0 ∷ b1 ∷ b2 ∷ b3 ∷ b4 ∷ []) l = absurd (omega arith)
-written_16 (b0 ∷ b1 ∷ b2 ∷ b3 ∷ b4 ∷ b5 ∷ []) l = absurd (omega arith)
-written_16 (b0 ∷ b1 ∷ b2 ∷ b3 ∷ b4 ∷ b5 ∷ b6 ∷ []) l = absurd (omega arith)
-written_16 (b0 ∷ b1 ∷ b2 ∷ b3 ∷ b4 ∷ b5 ∷ b6 ∷ b7 ∷ []) l = absurd (omega arith)
-written_16 (b0 ∷ b1 ∷ b2 ∷ b3 ∷ b4 ∷ b5 ∷ b6 ∷ b7 ∷ b8 ∷ []) l = absurd (omega arith)
-written_16 (b0 ∷ b1 ∷ b2 ∷ b3 ∷ b4 ∷ b5 ∷ b6 ∷ b7 ∷ b8 ∷ b9 ∷ []) l = absurd (omega arith)
-written_16 (b0 ∷ b1 ∷ b2 ∷ b3 ∷ b4 ∷ b5 ∷ b6 ∷ b7 ∷ b8 ∷ b9 ∷ b10 ∷ []) l = absurd (omega arith)
-written_16 (b0 ∷ b1 ∷ b2 ∷ b3 ∷ b4 ∷ b5 ∷ b6 ∷ b7 ∷ b8 ∷ b9 ∷ b10 ∷ b11 ∷ []) l = absurd (omega arith)
-written_16 (b0 ∷ b1 ∷ b2 ∷ b3 ∷ b4 ∷ b5 ∷ b6 ∷ b7 ∷ b8 ∷ b9 ∷ b10 ∷ b11 ∷ b12 ∷ []) l = absurd (omega arith)
-written_16 (b0 ∷ b1 ∷ b2 ∷ b3 ∷ b4 ∷ b5 ∷ b6 ∷ b7 ∷ b8 ∷ b9 ∷ b10 ∷ b11 ∷ b12 ∷ b13 ∷ []) l = absurd (omega arith)
-written_16 (b0 ∷ b1 ∷ b2 ∷ b3 ∷ b4 ∷ b5 ∷ b6 ∷ b7 ∷ b8 ∷ b9 ∷ b10 ∷ b11 ∷ b12 ∷ b13 ∷ b14 ∷ []) l = absurd (omega arith)
-written_16 (b0 ∷ b1 ∷ b2 ∷ b3 ∷ b4 ∷ b5 ∷ b6 ∷ b7 ∷ b8 ∷ b9 ∷ b10 ∷ b11 ∷ b12 ∷ b13 ∷ b14 ∷ b15 ∷ []) l = refl
-written_16 (b0 ∷ b1 ∷ b2 ∷ b3 ∷ b4 ∷ b5 ∷ b6 ∷ b7 ∷ b8 ∷ b9 ∷ b10 ∷ b11 ∷ b12 ∷ b13 ∷ b14 ∷ b15 ∷ x ∷ bs) l = absurd (omega arith)
+-- the bytes of the number that bytes make, the lowest first
+pub little_bytes-again : (n i : ℕ) (xs : List ℕ) → IsBytes xs → i + n ≤ length xs → bytes_low_first 0 n (little_from i n xs) ≡ take n (drop i xs)
+little_bytes-again zero i xs fits long = refl
+little_bytes-again (suc n) i xs fits long =
+    let a : ℕ = get_or xs i 0 in
+    let r : ℕ = little_from (suc i) n xs in
+    let low : (a + 256 * r) % 256 ≡ a = omega (arith, fits i) in
+    let high : (a + 256 * r) / 256 ≡ r = omega (arith, fits i) in
+    let rest : bytes_low_first 1 n (a + 256 * r) ≡ take n (drop (suc i) xs) =
+    low_first-suc 0 n (a + 256 * r) ∙ ap (bytes_low_first 0 n) high ∙ little_bytes-again n (suc i) xs fits (omega (arith, long)) in
+    (λ k. low k ∷ rest k) ∙ ap (take (suc n)) (sym (drop-cons xs i 0 (omega (arith, long))))
 
--- the bytes of the label that 16 bytes make
-pub to_le_bytes-from_le_bytes : (bs : List ℕ) → length bs ≡ 16 → ((i : ℕ) → get_or bs i 0 < 256) → to_le_bytes w128 (from_le_bytes w128 bs) ≡ bs
-to_le_bytes-from_le_bytes bs l small = bytes_16 _ _ _ _ _ _ _ _ _ _ _ _ _ _ _ _ (from_le_bytes w128 bs) (small 0) (small 1) (small 2) (small 3) (small 4) (small 5) (small 6) (small 7) (small 8) (small 9) (small 10) (small 11) (small 12) (small 13) (small 14) (small 15) refl ∙ written_16 bs l
-
-joined_16 : (b0 b1 b2 b3 b4 b5 b6 b7 b8 b9 b10 b11 b12 b13 b14 b15 n q1 q2 q3 q4 q5 q6 q7 q8 q9 q10 q11 q12 q13 q14 q15 : ℕ) → n ≡ b0 + q1 * 256 → q1 ≡ b1 + q2 * 256 → q2 ≡ b2 + q3 * 256 → q3 ≡ b3 + q4 * 256 → q4 ≡ b4 + q5 * 256 → q5 ≡ b5 + q6 * 256 → q6 ≡ b6 + q7 * 256 → q7 ≡ b7 + q8 * 256 → q8 ≡ b8 + q9 * 256 → q9 ≡ b9 + q10 * 256 → q10 ≡ b10 + q11 * 256 → q11 ≡ b11 + q12 * 256 → q12 ≡ b12 + q13 * 256 → q13 ≡ b13 + q14 * 256 → q14 ≡ b14 + q15 * 256 → q15 ≡ b15
-    → b0 + b1 * 256 + b2 * 65536 + b3 * 16777216 + b4 * 4294967296 + b5 * 1099511627776 + b6 * 281474976710656 + b7 * 72057594037927936 + b8 * 18446744073709551616 + b9 * 4722366482869645213696 + b10 * 1208925819614629174706176 + b11 * 309485009821345068724781056 + b12 * 79228162514264337593543950336 + b13 * 20282409603651670423947251286016 + b14 * 5192296858534827628530496329220096 + b15 * 1329227995784915872903807060280344576 ≡ n
-joined_16 b0 b1 b2 b3 b4 b5 b6 b7 b8 b9 b10 b11 b12 b13 b14 b15 n q1 q2 q3 q4 q5 q6 q7 q8 q9 q10 q11 q12 q13 q14 q15 at_0 at_1 at_2 at_3 at_4 at_5 at_6 at_7 at_8 at_9 at_10 at_11 at_12 at_13 at_14 at_15 = omega arith
-
-byte_and_rest : (n p : ℕ) → n / p ≡ n / p % 256 + n / (p * 256) * 256
-byte_and_rest n p = omega (arith, nat.div-div-eq-div-mul n p 256)
-
--- the label that its bytes make
-pub from_le_bytes-to_le_bytes : (n : ℕ) → n < 2 ^ 128 → from_le_bytes w128 (to_le_bytes w128 n) ≡ n
-from_le_bytes-to_le_bytes n fits =
-    let low : n ≡ n % 256 + n / 256 * 256 = omega arith in
-    let high : n / 1329227995784915872903807060280344576 ≡ n / 1329227995784915872903807060280344576 % 256 = omega arith in
-    joined_16 _ _ _ _ _ _ _ _ _ _ _ _ _ _ _ _ n _ _ _ _ _ _ _ _ _ _ _ _ _ _ _ low (byte_and_rest n 256) (byte_and_rest n 65536) (byte_and_rest n 16777216) (byte_and_rest n 4294967296) (byte_and_rest n 1099511627776) (byte_and_rest n 281474976710656) (byte_and_rest n 72057594037927936) (byte_and_rest n 18446744073709551616) (byte_and_rest n 4722366482869645213696) (byte_and_rest n 1208925819614629174706176) (byte_and_rest n 309485009821345068724781056) (byte_and_rest n 79228162514264337593543950336) (byte_and_rest n 20282409603651670423947251286016) (byte_and_rest n 5192296858534827628530496329220096) high
+-- the same of four bytes, the highest first
+pub big_bytes-again : (xs : List ℕ) → IsBytes xs → 4 ≤ length xs → bytes_high_first 4 (big_from 0 4 xs) ≡ take 4 xs
+big_bytes-again xs fits long =
+    be_bytes_4 (take 4 xs) (big_from 0 4 xs) (omega (arith, long, length-take 4 xs)) (IsBytes-take 4 xs fits)
+    (rw (get_or-take 4 xs 0 0 (omega arith), get_or-take 4 xs 1 0 (omega arith), get_or-take 4 xs 2 0 (omega arith), get_or-take 4 xs 3 0 (omega arith)) (omega arith))

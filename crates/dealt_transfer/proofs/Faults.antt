@@ -1,12 +1,11 @@
 -- A file without a form fault has its fields.
-use Rattle.std.proofs.Common.{ℕ, ◌+◌, ◌-◌, ◌%◌, ◌^◌, ◌≡◌, ◌<◌, ◌≤◌, List, [], ◌∷◌, ◌++◌, length, take, get_or, Bool, true, false, cond, Option, Some, None, refl, sym, ap, ◌∙◌, arith, eqb, leb}
-use Rattle.std.specs.Prelude.{not, ◌&&◌}
+use Rattle.std.proofs.Common.{ℕ, ◌+◌, ◌≡◌, ◌≤◌, List, [], ◌∷◌, ◌++◌, length, take, drop, get_or, Bool, true, false, cond, Option, Some, None, refl, sym, ◌∙◌, arith}
+use Rattle.std.specs.Prelude.{not}
 use Rattle.std.proofs.lemmas.Bool.{ltb-false, eqb-true}
-use Rattle.std.proofs.lemmas.Bool.Decides.{nat_tests}
 use Rattle.std.proofs.lemmas.Slice.Eq.{bytes_eq-Decides}
 use Rattle.dealt_transfer.specs.declared.fault.HalfRule.{HalfRule}
-use Rattle.dealt_transfer.specs.Halves.{most}
-use Rattle.dealt_transfer.specs.Packing.{byte_count}
+use Rattle.dealt_transfer.specs.Halves.{most_transfers}
+use Rattle.oc_values.specs.Packing.{byte_count, padding_set}
 use Rattle.dealt_transfer.specs.Files.{sender_magic, receiver_magic}
 use Rattle.dealt_transfer.specs.Faults.{Check, first_found, opening_checks, size_checks, bits_checks, count_at, sender_size, receiver_size, sender_fault, receiver_fault}
 
@@ -50,7 +49,7 @@ pub record IsOpened (magic : List ℕ) (at : ℕ) (bytes : List ℕ) : Type 0 wh
   pub magic_is : take 4 bytes ≡ magic
   pub longer : 5 ≤ length bytes
   pub version : get_or bytes 4 0 ≡ 1
-  pub count : count_at at bytes ≤ most
+  pub count : count_at at bytes ≤ most_transfers
 
 pub is_opened : (magic : List ℕ) (at : ℕ) (bytes : List ℕ) → first_found (opening_checks magic at bytes) ≡ None → IsOpened magic at bytes
 is_opened magic at bytes e =
@@ -76,14 +75,10 @@ is_sized size bytes e =
     let below : length bytes ≤ size = ltb-false _ _ two.0 in
     omega arith
 
-and_false : (a b : Bool) → (a && b) ≡ false → a ≡ true → b ≡ false
-and_false true b e h = e
-and_false false b e h = absurd cc
-
 -- the bits have their bytes, and no bit stands behind them
 pub record HasBits (bits at : ℕ) (bytes : List ℕ) : Type 0 where
   pub long : at + byte_count bits ≤ length bytes
-  pub padded : (eqb (bits % 8) 0 ≡ false) → get_or bytes (at + byte_count bits - 1) 0 < 2 ^ (bits % 8)
+  pub padded : padding_set bits (drop at bytes) ≡ false
 
 pub has_bits : (bits at : ℕ) (bytes : List ℕ) → first_found (bits_checks bits at bytes) ≡ None → HasBits bits at bytes
 has_bits bits at bytes e =
@@ -91,7 +86,7 @@ has_bits bits at bytes e =
     let two = none_first _ _ _ one.1 in
     record {
       long = ltb-false _ _ one.0;
-      padded = λ h. let t : leb (2 ^ (bits % 8)) (get_or bytes (at + byte_count bits - 1) 0) ≡ false = and_false _ _ two.0 (ap not h) in grind (arith, nat_tests);
+      padded = two.0;
     }
 
 -- the fault of a sender's file is that of its opening, or of its size

@@ -1,6 +1,5 @@
 pub mod Bytes
 pub mod Faults
 pub mod Pieces
-pub mod Packs
 pub mod Spelled
 pub mod Opening

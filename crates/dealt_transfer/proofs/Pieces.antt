@@ -1,27 +1,15 @@
 -- Pieces of lists, and fields of one length one after another.
-use Rattle.std.proofs.Common.{ℕ, ◌+◌, ◌*◌, ◌^◌, ◌≡◌, ◌<◌, List, [], ◌∷◌, ◌++◌, length, take, drop, get_or, refl, sym, ap, ◌∙◌, arith, append-nil, length-append, inl, inr}
+use Rattle.std.proofs.Common.{ℕ, ◌+◌, ◌*◌, ◌^◌, ◌≡◌, ◌<◌, ◌≤◌, List, [], ◌∷◌, ◌++◌, length, take, drop, refl, sym, ap, ◌∙◌, arith, append-nil, length-append}
 use Rattle.std.specs.List.{flat_map, AllByRecursion}
-use Rattle.std.specs.Int.{w128, from_le_bytes, to_le_bytes}
-use Rattle.std.proofs.lemmas.List.{take-append-drop, length-take, length-drop, get_or-drop, get_or-take, get_or_past, take_at, drop_at, drop-drop, take_all}
+use Rattle.std.proofs.lemmas.List.{take-append-drop, length-drop, take_at, drop_at, drop-drop, take_all}
 use Rattle.std.proofs.lemmas.List.Concat.{flat_map-append}
-use Rattle.std.proofs.lemmas.Bool.{cases_lt}
 use Rattle.std.proofs.Math.Seq.{take-add}
 use Rattle.dealt_transfer.specs.Halves.{IsLabel, IsPair}
 use Rattle.dealt_transfer.specs.Files.{label_bytes, pair_bytes}
-use Rattle.dealt_transfer.proofs.Bytes.{to_le_bytes-from_le_bytes, from_le_bytes-to_le_bytes}
-
-abbrev pub IsBytes : List ℕ → Type 0
-IsBytes bytes = (i : ℕ) → get_or bytes i 0 < 256
-
-pub IsBytes-drop : (n : ℕ) (bytes : List ℕ) → IsBytes bytes → IsBytes (drop n bytes)
-IsBytes-drop n bytes h i = rw get_or-drop (h (n + i))
-
-pub IsBytes-take : (n : ℕ) (bytes : List ℕ) → IsBytes bytes → IsBytes (take n bytes)
-IsBytes-take n bytes h i =
-    elim (cases_lt i n) [
-      | inl lt ↦ rw (get_or-take n bytes i 0 lt) (h i)
-      | inr le ↦ rw (get_or_past (take n bytes) i 0 (omega (arith, length-take n bytes))) (omega arith)
-    ]
+use Rattle.byteorder.specs.Endian.{little_number, little_bytes}
+use Rattle.byteorder.specs.Numbers.{little_number-reads_back}
+use Rattle.oc_values.proofs.Packs.{IsBytes, IsBytes-drop}
+use Rattle.dealt_transfer.proofs.Bytes.{little_bytes-again}
 
 -- what stands from a place on is a piece and what stands behind it
 pub piece : (at n : ℕ) (bytes : List ℕ) → drop at bytes ≡ take n (drop at bytes) ++ drop (at + n) bytes
@@ -44,20 +32,21 @@ all_push P (y ∷ ys) x h p = (h.0, all_push P ys x h.1 p)
 -- ---- labels
 
 -- the label that sixteen bytes make has these bytes
-pub label_of_bytes : (bytes : List ℕ) (label : ℕ) → length bytes ≡ 16 → IsBytes bytes → label ≡ from_le_bytes w128 bytes → label_bytes label ≡ bytes
+pub label_of_bytes : (bytes : List ℕ) (at label : ℕ) → at + 16 ≤ length bytes → IsBytes bytes → label ≡ little_number 16 (drop at bytes) → label_bytes label ≡ take 16 (drop at bytes)
 unfolding label_bytes
-label_of_bytes bytes label size fits e = ap (to_le_bytes w128) e ∙ to_le_bytes-from_le_bytes bytes size fits
+label_of_bytes bytes at label long fits e =
+    ap (little_bytes 16) e ∙ little_bytes-again 16 0 (drop at bytes) (IsBytes-drop at bytes fits) (omega (arith, long, length-drop at bytes))
 
 pub length-label_bytes : (label : ℕ) → length (label_bytes label) ≡ 16
 unfolding label_bytes
 length-label_bytes label = refl
 
-label_again : (label : ℕ) → label < 2 ^ 128 → from_le_bytes w128 (label_bytes label) ≡ label
+label_again : (label : ℕ) → label < 2 ^ 128 → little_number 16 (label_bytes label ++ []) ≡ label
 unfolding label_bytes
-label_again label h = from_le_bytes-to_le_bytes label h
+label_again label h = little_number-reads_back 16 label [] h
 
 label_bytes-injective : (a b : ℕ) → IsLabel a → IsLabel b → label_bytes a ≡ label_bytes b → a ≡ b
-label_bytes-injective a b ha hb e = sym (label_again a ha) ∙ ap (from_le_bytes w128) e ∙ label_again b hb
+label_bytes-injective a b ha hb e = sym (label_again a ha) ∙ ap (λ (t : List ℕ). little_number 16 (t ++ [])) e ∙ label_again b hb
 
 -- two fronts of one length
 pub peel : (a b x y : List ℕ) → length a ≡ length b → a ++ x ≡ b ++ y → (a ≡ b) × (x ≡ y)

@@ -1,24 +1,23 @@
 -- A file without a form fault is the file of the half that is read of it, and no other half has this file; the file of
 -- a half has no form fault.
-use Rattle.std.proofs.Common.{ℕ, ◌+◌, ◌-◌, ◌*◌, ◌/◌, ◌%◌, ◌^◌, ◌≡◌, ◌<◌, ◌≤◌, Bool, true, false, cond, eqb, ltb, leb, List, [], ◌∷◌, ◌++◌, length, take, drop, map, get_or, Option, Some, None, refl, sym, ap, ◌∙◌, subst, arith, append_assoc, length-append}
-use Rattle.std.specs.Prelude.{not, ◌&&◌}
-use Rattle.std.specs.Int.{w32, from_be_bytes}
+use Rattle.std.proofs.Common.{ℕ, ◌+◌, ◌*◌, ◌≡◌, ◌<◌, ◌≤◌, Bool, true, false, cond, eqb, ltb, List, [], ◌∷◌, ◌++◌, length, take, drop, get_or, Option, Some, None, refl, sym, ap, ◌∙◌, subst, arith, append_assoc, length-append}
+use Rattle.std.specs.Prelude.{not}
 use Rattle.std.specs.Str.{bytes_eq}
-use Rattle.std.specs.List.{flat_map, AllByRecursion, range_with_len}
+use Rattle.std.specs.List.{flat_map, AllByRecursion}
 use Rattle.std.proofs.lemmas.Bool.{le-ltb}
-use Rattle.std.proofs.lemmas.Bool.Decides.{nat_tests}
 use Rattle.std.proofs.lemmas.Slice.Eq.{bytes_eq-Decides}
-use Rattle.std.proofs.lemmas.List.{take-append-drop, length-take, length-drop, get_or-drop, get_or-take, take_at, drop_at, drop-drop, get_or_append_left, flat_map_more, take_more}
+use Rattle.std.proofs.lemmas.List.{take-append-drop, length-take, length-drop, get_or-drop, take_at, drop_at, drop-drop, flat_map_more, take_more}
 use Rattle.std.proofs.Math.Seq.{drop-cons}
-use Rattle.std.proofs.lemmas.List.FromFn.{fill_by_all, length-map-range_with_len, get_or-map-range_with_len}
-use Rattle.std.proofs.lemmas.Nat.{be_bytes_4, from_be_bytes-to_be_bytes_4}
 use Rattle.dealt_transfer.specs.declared.half.SenderHalf.{SenderHalf}
-use Rattle.dealt_transfer.specs.Halves.{most, IsLabel, IsPair, Receiver}
-use Rattle.dealt_transfer.specs.Packing.{bit_in, byte_count, pack}
+use Rattle.dealt_transfer.specs.Halves.{most_transfers, IsLabel, IsPair, Receiver}
+use Rattle.oc_values.specs.Packing.{byte_count, pack, unpack, padding_set}
 use Rattle.dealt_transfer.specs.Files.{opening, sender_magic, receiver_magic, number_bytes, label_bytes, pair_bytes, sender_file, receiver_file, Half1, Half2}
 use Rattle.dealt_transfer.specs.Faults.{first_found, opening_checks, size_checks, bits_checks, count_at, sender_size, receiver_size, sender_fault, receiver_fault}
-use Rattle.dealt_transfer.proofs.Pieces.{IsBytes, IsBytes-drop, IsBytes-take, piece, peel, pairs_same, labels_same, length-pairs, length-labels}
-use Rattle.dealt_transfer.proofs.Packs.{pack_again, pack_same, length-pack, pack_padded}
+use Rattle.byteorder.specs.Endian.{big_number}
+use Rattle.byteorder.specs.Numbers.{big_number-reads_back}
+use Rattle.dealt_transfer.proofs.Bytes.{big_bytes-again}
+use Rattle.dealt_transfer.proofs.Pieces.{piece, peel, pairs_same, labels_same, length-pairs, length-labels}
+use Rattle.oc_values.proofs.Packs.{IsBytes, IsBytes-drop, pack_same, length-pack, padding_none_of, pack-unpack}
 use Rattle.dealt_transfer.proofs.Faults.{Fault, IsOpened, HasBits, sender_sized, receiver_sized}
 
 -- ---- what is read
@@ -33,7 +32,7 @@ opened_is magic at bytes o =
 -- the number of transfers stands there
 number_is : (at : ℕ) (bytes : List ℕ) → IsBytes bytes → at + 4 ≤ length bytes → number_bytes (count_at at bytes) ≡ take 4 (drop at bytes)
 number_is at bytes fits long =
-    be_bytes_4 (take 4 (drop at bytes)) (count_at at bytes) (omega (arith, length-take 4 (drop at bytes), length-drop at bytes)) (IsBytes-take 4 (drop at bytes) (IsBytes-drop at bytes fits)) refl
+    big_bytes-again (drop at bytes) (IsBytes-drop at bytes fits) (omega (arith, long, length-drop at bytes))
 
 pub sender_read : (bytes : List ℕ) (pads : List (ℕ × ℕ)) → IsBytes bytes → IsOpened sender_magic 53 bytes
     → flat_map pair_bytes pads ≡ drop 57 bytes → length pads ≡ count_at 53 bytes → AllByRecursion IsPair pads
@@ -89,11 +88,11 @@ receiver_read bytes bits pads fits o packed spelled size count labels =
 number_bytes-length : (n : ℕ) → length (number_bytes n) ≡ 4
 number_bytes-length n = refl
 
-number_again : (n : ℕ) → n ≤ most → from_be_bytes w32 (number_bytes n) ≡ n
-number_again n le = from_be_bytes-to_be_bytes_4 n (omega (arith, le))
+number_again : (n : ℕ) (rest : List ℕ) → n ≤ most_transfers → big_number 4 (number_bytes n ++ rest) ≡ n
+number_again n rest le = big_number-reads_back 4 n rest (omega (arith, le))
 
-numbers_same : (m n : ℕ) → m ≤ most → n ≤ most → number_bytes m ≡ number_bytes n → m ≡ n
-numbers_same m n hm hn e = sym (number_again m hm) ∙ ap (from_be_bytes w32) e ∙ number_again n hn
+numbers_same : (m n : ℕ) → m ≤ most_transfers → n ≤ most_transfers → number_bytes m ≡ number_bytes n → m ≡ n
+numbers_same m n hm hn e = sym (number_again m [] hm) ∙ ap (λ (t : List ℕ). big_number 4 (t ++ [])) e ∙ number_again n [] hn
 
 senders_equal : (p q : SenderHalf) → p.tag ≡ q.tag → p.coin_key ≡ q.coin_key → p.pads ≡ q.pads → p ≡ q
 senders_equal p q e f g = λ i. record { tag = e i; coin_key = f i; pads = g i }
@@ -146,7 +145,7 @@ opening_none magic at bytes o =
     let three : ltb (length bytes) 5 ≡ false = le-ltb _ _ o.longer in
     let four : eqb (get_or bytes 4 0) 1 ≡ true = ap (λ (b : ℕ). eqb b 1) o.version in
     let five : ltb (length bytes) (at + 4) ≡ false = le-ltb _ _ o.long in
-    let six : ltb most (count_at at bytes) ≡ false = le-ltb _ _ o.count in
+    let six : ltb most_transfers (count_at at bytes) ≡ false = le-ltb _ _ o.count in
     found_none _ _ _ one (found_none _ _ _ (not_true _ two) (found_none _ _ _ three (found_none _ _ _ (not_true _ four) (found_none _ _ _ five (found_none _ _ _ six refl)))))
 
 size_none : (size : ℕ) (bytes : List ℕ) → length bytes ≡ size → first_found (size_checks size bytes) ≡ None
@@ -155,17 +154,13 @@ size_none size bytes e =
     let two : ltb size (length bytes) ≡ false = le-ltb _ _ (omega (arith, e)) in
     found_none _ _ _ one (found_none _ _ _ two refl)
 
-padding_none : (a b : Bool) → (a ≡ false → b ≡ false) → (not a && b) ≡ false
-padding_none true b h = refl
-padding_none false b h = h refl
-
 bits_none : (bits at : ℕ) (bytes : List ℕ) → HasBits bits at bytes → first_found (bits_checks bits at bytes) ≡ None
 bits_none bits at bytes h =
     found_none _ _ _ (le-ltb _ _ h.long)
-    (found_none _ _ _ (padding_none (eqb (bits % 8) 0) (leb (2 ^ (bits % 8)) (get_or bytes (at + byte_count bits - 1) 0)) (λ e. let p = h.padded e in grind (arith, nat_tests))) refl)
+    (found_none _ _ _ h.padded refl)
 
 -- a file of an opening, fields of this length, and then a number and more
-pub opened : (magic fields rest bytes : List ℕ) (n at : ℕ) → length magic ≡ 4 → at ≡ 5 + length fields → n ≤ most
+pub opened : (magic fields rest bytes : List ℕ) (n at : ℕ) → length magic ≡ 4 → at ≡ 5 + length fields → n ≤ most_transfers
     → bytes ≡ opening magic ++ (fields ++ (number_bytes n ++ rest)) → IsOpened magic at bytes × (count_at at bytes ≡ n) × (drop (at + 4) bytes ≡ rest)
 opened magic fields rest bytes n at four place few e =
     let behind : List ℕ = fields ++ (number_bytes n ++ rest) in
@@ -177,7 +172,7 @@ opened magic fields rest bytes n at four place few e =
     let version : get_or bytes 4 0 ≡ 1 = sym (get_or-drop 4 bytes 0 0) ∙ ap (λ (t : List ℕ). get_or t 0 0) (ap (drop 4) split ∙ drop_at magic (1 ∷ behind) 4 four) in
     let regrouped : bytes ≡ (opening magic ++ fields) ++ (number_bytes n ++ rest) = e ∙ sym (append_assoc (opening magic) fields (number_bytes n ++ rest)) in
     let at_number : drop at bytes ≡ number_bytes n ++ rest = ap (drop at) regrouped ∙ drop_at (opening magic ++ fields) (number_bytes n ++ rest) at (length-append (opening magic) fields ∙ omega (arith, open_size, place)) in
-    let count : count_at at bytes ≡ n = ap (λ (t : List ℕ). from_be_bytes w32 (take 4 t)) at_number ∙ ap (from_be_bytes w32) (take_at (number_bytes n) rest 4 (number_bytes-length n)) ∙ number_again n few in
+    let count : count_at at bytes ≡ n = ap (big_number 4) at_number ∙ number_again n rest few in
     let after : drop (at + 4) bytes ≡ rest = sym (drop-drop 4 at bytes) ∙ ap (drop 4) at_number ∙ drop_at (number_bytes n) rest 4 (number_bytes-length n) in
     (record { long = omega (arith, size); magic_is = front; longer = omega (arith, size, place); version = version; count = omega (arith, count, few) }, count, after)
 
@@ -204,15 +199,8 @@ receiver_faultless bytes half h =
     let bytes_of_bits : length (pack half.bits) ≡ byte_count n = length-pack half.bits ∙ ap byte_count h.0.bits in
     let rest : length (drop 25 bytes) ≡ byte_count n + 16 * n = ap length o.2 ∙ length-append (pack half.bits) pads ∙ omega (arith, bytes_of_bits, length-labels half.pads) in
     let size : length bytes ≡ 25 + byte_count n + 16 * n = omega (arith, long, rest, length-drop 25 bytes) in
-    let padded : eqb (n % 8) 0 ≡ false → get_or bytes (25 + byte_count n - 1) 0 < 2 ^ (n % 8) = λ e.
-    let some : 0 < byte_count n = grind (arith, nat_tests) in
-    let at : 25 + byte_count n - 1 ≡ 25 + (byte_count n - 1) = omega (arith, some) in
-    let last = pack_padded half.bits (ap (λ (k : ℕ). eqb (k % 8) 0) h.0.bits ∙ e) in
-    let moved : get_or (pack half.bits) (byte_count n - 1) 0 < 2 ^ (n % 8) = subst (λ (k : ℕ). get_or (pack half.bits) (byte_count k - 1) 0 < 2 ^ (k % 8)) h.0.bits last in
-    let found : get_or bytes (25 + byte_count n - 1) 0 ≡ get_or (pack half.bits) (byte_count n - 1) 0 =
-    ap (λ (k : ℕ). get_or bytes k 0) at ∙ sym (get_or-drop 25 bytes (byte_count n - 1) 0) ∙ ap (λ (t : List ℕ). get_or t (byte_count n - 1) 0) o.2
-    ∙ get_or_append_left (pack half.bits) pads 0 (byte_count n - 1) (omega (arith, bytes_of_bits, some)) in
-    rw found moved in
+    let front : take (byte_count n) (drop 25 bytes) ≡ pack half.bits = ap (take (byte_count n)) o.2 ∙ take_at (pack half.bits) pads (byte_count n) bytes_of_bits in
+    let padded : padding_set n (drop 25 bytes) ≡ false = padding_none_of n (drop 25 bytes) half.bits h.0.bits front in
     let bits : HasBits (count_at 21 bytes) 25 bytes = subst (λ (k : ℕ). HasBits k 25 bytes) (sym o.1) (record { long = omega (arith, size); padded = padded }) in
     let sized : length bytes ≡ receiver_size (count_at 21 bytes) = size ∙ ap receiver_size (sym o.1) in
     receiver_sized bytes (opening_none receiver_magic 21 bytes o.0) (bits_none (count_at 21 bytes) 25 bytes bits) ∙ size_none (receiver_size (count_at 21 bytes)) bytes sized
@@ -257,27 +245,9 @@ pairs_put start before between after first second pairs i lt e h hf k ks =
     ∙ ap (λ (x : List ℕ). x ++ pair_bytes pair) e ∙ flat_map_more pair_bytes start (take i pairs) pair
     ∙ ap (λ (xs : List (ℕ × ℕ)). start ++ flat_map pair_bytes xs) (sym (take_more pairs i (0, 0) lt))
 
--- bits depend on their bytes alone
-bits_of_front : (k n : ℕ) (bytes : List ℕ) → n ≤ 8 * k → map (bit_in (take k bytes)) (range_with_len 0 n) ≡ map (bit_in bytes) (range_with_len 0 n)
-bits_of_front k n bytes le =
-    fill_by_all (bit_in bytes) (map (bit_in (take k bytes)) (range_with_len 0 n)) n false (length-map-range_with_len (bit_in (take k bytes)) 0 n) (λ i lt.
-    get_or-map-range_with_len (bit_in (take k bytes)) 0 n i i false lt (omega arith) ∙ ap (λ (b : ℕ). eqb (b / 2 ^ (i % 8) % 2) 1) (get_or-take k bytes (i / 8) 0 (omega arith)))
-
-bits_taken : (n : ℕ) (bytes : List ℕ) → IsBytes bytes → 25 + byte_count n ≤ length bytes → (eqb (n % 8) 0 ≡ false → get_or bytes (25 + byte_count n - 1) 0 < 2 ^ (n % 8))
-    → pack (map (bit_in (drop 25 bytes)) (range_with_len 0 n)) ≡ take (byte_count n) (drop 25 bytes)
-bits_taken n bytes fits long padded =
-    let k : ℕ = byte_count n in
-    let front : List ℕ = take k (drop 25 bytes) in
-    let size : length front ≡ byte_count n = omega (arith, long, length-take k (drop 25 bytes), length-drop 25 bytes) in
-    let behind : eqb (n % 8) 0 ≡ false → get_or front (byte_count n - 1) 0 < 2 ^ (n % 8) = λ e.
-    let some : 0 < byte_count n = grind (arith, nat_tests) in
-    let at : 25 + byte_count n - 1 ≡ 25 + (byte_count n - 1) = omega (arith, some) in
-    let same : get_or front (byte_count n - 1) 0 ≡ get_or bytes (25 + byte_count n - 1) 0 =
-    get_or-take k (drop 25 bytes) (byte_count n - 1) 0 (omega (arith, some)) ∙ get_or-drop 25 bytes (byte_count n - 1) 0 ∙ ap (λ (j : ℕ). get_or bytes j 0) (sym at) in
-    rw same (padded e) in
-    ap pack (sym (bits_of_front k n (drop 25 bytes) (omega arith))) ∙ pack_again front n (IsBytes-take k (drop 25 bytes) (IsBytes-drop 25 bytes fits)) size behind
-
 -- the bits that were read of a file are packed into its bytes
 pub bits_read : (bytes : List ℕ) → IsBytes bytes → HasBits (count_at 21 bytes) 25 bytes
-    → pack (map (bit_in (drop 25 bytes)) (range_with_len 0 (count_at 21 bytes))) ≡ take (byte_count (count_at 21 bytes)) (drop 25 bytes)
-bits_read bytes fits h = bits_taken (count_at 21 bytes) bytes fits h.long h.padded
+    → pack (unpack (count_at 21 bytes) (drop 25 bytes)) ≡ take (byte_count (count_at 21 bytes)) (drop 25 bytes)
+bits_read bytes fits h =
+    let long = h.long in
+    pack-unpack (count_at 21 bytes) (drop 25 bytes) (IsBytes-drop 25 bytes fits) (omega (arith, long, length-drop 25 bytes)) h.padded

@@ -1,19 +1,11 @@
 -- What a dealer makes of a key: both halves of so many transfers, from the words of the ChaCha20 stream 0 of the key.
-use Rattle.std.specs.Prelude.{ℕ, ◌+◌, ◌*◌, ◌%◌, ◌^◌, Bool, nat_eq, List, ◌++◌, map, if◌then◌else◌}
+use Rattle.std.specs.Prelude.{ℕ, ◌+◌, ◌*◌, ◌%◌, Bool, nat_eq, List, ◌++◌, map, if◌then◌else◌}
 use Rattle.std.specs.List.{range_with_len}
-use Rattle.rand_chacha.specs.ChaCha.{word_at, key_of}
+use Rattle.rand_chacha.specs.ChaCha.{key_of}
 use Rattle.dealt_transfer.specs.declared.half.SenderHalf.{SenderHalf}
 use Rattle.dealt_transfer.specs.Halves.{Receiver}
 use Rattle.dealt_transfer.specs.Files.{label_bytes}
-
--- the word of the stream at a place, where the key is given by its eight words
-unfoldable pub word : List ℕ → ℕ → ℕ
-word key place = word_at 10 key 0 place
-
--- the label of four words, the lowest first
-abbrev pub label_at : List ℕ → ℕ → ℕ
-label_at key place =
-    word key place + 2 ^ 32 * word key (place + 1) + 2 ^ 64 * word key (place + 2) + 2 ^ 96 * word key (place + 3)
+use Rattle.dealt_transfer.specs.Labels.{word, label_at}
 
 -- the sixteen bytes of four words, the lowest first
 abbrev pub bytes_at : List ℕ → ℕ → List ℕ

@@ -1,11 +1,11 @@
 -- The form faults of a half's file, and which is the first.
-use Rattle.std.specs.Prelude.{ℕ, ◌+◌, ◌-◌, ◌*◌, ◌%◌, ◌^◌, Bool, ◌&&◌, not, nat_eq, nat_lt, nat_le, List, [], ◌∷◌, ◌++◌, length, take, drop, slice_index, Option, Some, None, if◌then◌else◌}
-use Rattle.std.specs.Int.{w32, from_be_bytes}
+use Rattle.std.specs.Prelude.{ℕ, ◌+◌, ◌-◌, ◌*◌, Bool, not, nat_eq, nat_lt, List, [], ◌∷◌, ◌++◌, length, take, drop, slice_index, Option, Some, None, if◌then◌else◌}
+use Rattle.byteorder.specs.Endian.{big_number}
 use Rattle.std.specs.Str.{bytes_eq}
 use Rattle.dealt_transfer.specs.declared.fault.HalfRule.{HalfRule}
 use Rattle.dealt_transfer.specs.declared.fault.HalfRule.TheVariants.{H1, H2, H3, H4}
-use Rattle.dealt_transfer.specs.Halves.{most}
-use Rattle.dealt_transfer.specs.Packing.{byte_count}
+use Rattle.dealt_transfer.specs.Halves.{most_transfers}
+use Rattle.oc_values.specs.Packing.{byte_count, padding_set}
 use Rattle.dealt_transfer.specs.Files.{sender_magic, receiver_magic}
 
 -- a fault that a file may have: whether it has it, and its rule and offset
@@ -35,18 +35,18 @@ has_other_magic magic bytes = record { found = not (bytes_eq (take 4 bytes) magi
 abbrev pub has_other_version : List ℕ → Check
 has_other_version bytes = record { found = not (nat_eq (slice_index bytes 4) 1); rule = H2; offset = 4 }
 
--- the number of transfers that stands at a place
+-- the number of transfers that stands at a place, in four bytes, the highest first
 abbrev pub count_at : ℕ → List ℕ → ℕ
-count_at at bytes = from_be_bytes w32 (take 4 (drop at bytes))
+count_at at bytes = big_number 4 (drop at bytes)
 
 -- it is too high: H3 at that place
 abbrev pub counts_too_many : ℕ → List ℕ → Check
-counts_too_many at bytes = record { found = nat_lt most (count_at at bytes); rule = H3; offset = at }
+counts_too_many at bytes = record { found = nat_lt most_transfers (count_at at bytes); rule = H3; offset = at }
 
 -- the last of the bytes of this many bits, which stand from a place on, has a bit besides them: H4 at that byte
 abbrev pub has_padding : ℕ → ℕ → List ℕ → Check
 has_padding bits at bytes = record {
-  found = not (nat_eq (bits % 8) 0) && nat_le (2 ^ (bits % 8)) (slice_index bytes (at + byte_count bits - 1));
+  found = padding_set bits (drop at bytes);
   rule = H4;
   offset = at + byte_count bits - 1;
 }

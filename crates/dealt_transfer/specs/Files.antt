@@ -5,7 +5,7 @@ use Rattle.std.specs.List.{flat_map}
 use Rattle.std.specs.Int.{w32, w128, to_be_bytes, to_le_bytes}
 use Rattle.dealt_transfer.specs.declared.half.SenderHalf.{SenderHalf}
 use Rattle.dealt_transfer.specs.Halves.{IsSender, IsReceiver, Receiver}
-use Rattle.dealt_transfer.specs.Packing.{pack}
+use Rattle.oc_values.specs.Packing.{pack}
 
 -- sixteen bytes of a label, the lowest first
 unfoldable pub label_bytes : ℕ → List ℕ

@@ -5,8 +5,8 @@ use Rattle.dealt_transfer.specs.declared.half.SenderHalf.{SenderHalf}
 use Rattle.dealt_transfer.specs.declared.half.ReceiverHalf.{ReceiverHalf}
 
 -- how many transfers a half has at most
-abbrev pub most : ℕ
-most = 1048576
+abbrev pub most_transfers : ℕ
+most_transfers = 1048576
 
 -- a receiver's half without the fact that it has as many bits as pads
 pub record Receiver : Type 0 where
@@ -30,12 +30,12 @@ IsPair pads = IsLabel pads.0 × IsLabel pads.1
 pub record IsSender (half : SenderHalf) : Type 0 where
   pub tag : length half.tag ≡ 16
   pub coin_key : length half.coin_key ≡ 32
-  pub count : length half.pads ≤ most
+  pub count : length half.pads ≤ most_transfers
   pub pads : AllByRecursion IsPair half.pads
 
 -- what has a receiver's file: a tag of 16 bytes, not too many pads, which are labels, and a bit for each pad
 pub record IsReceiver (half : Receiver) : Type 0 where
   pub tag : length half.tag ≡ 16
-  pub count : length half.pads ≤ most
+  pub count : length half.pads ≤ most_transfers
   pub bits : length half.bits ≡ length half.pads
   pub pads : AllByRecursion IsLabel half.pads

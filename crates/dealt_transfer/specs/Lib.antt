@@ -1,7 +1,7 @@
 pub mod Halves
-pub mod Packing
 pub mod Files
 pub mod Faults
 pub mod Reading
+pub mod Labels
 pub mod Dealing
 pub mod Transfers

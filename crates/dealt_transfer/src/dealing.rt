@@ -1,53 +1,28 @@
 //! What a dealer makes of a key.
 
-ghost use Rattle.std.specs.Prelude.{◌≡◌, ◌+◌, ◌*◌, ◌<◌, ◌≤◌, ◌^◌, ◌++◌, IfOk, length, map};
+ghost use Rattle.std.specs.Prelude.{◌≡◌, ◌+◌, ◌%◌, ◌<◌, ◌≤◌, ◌^◌, ◌++◌, IfOk, length, map};
 ghost use Rattle.std.specs.List.{range_with_len};
-ghost use Rattle.dealt_transfer.specs.Halves.{most, receiver};
-ghost use Rattle.dealt_transfer.specs.Dealing.{bit_at, bytes_at, chosen as pad_chosen, label_at, pad_at, pair_at, place_of, receiver_dealt, sender_dealt, word};
+ghost use Rattle.dealt_transfer.specs.Halves.{most_transfers, receiver};
+ghost use Rattle.dealt_transfer.specs.Dealing.{bit_at, bytes_at, chosen as pad_chosen, pad_at, pair_at, receiver_dealt, sender_dealt};
 ghost use Rattle.dealt_transfer.specs.Transfers.{Match};
 
 use crate::half::{ReceiverHalf, SenderHalf};
-use crate::writing::field_of;
+use crate::stream::{next, next_label};
+use crate::writing::label_field;
 use half_gates::Label;
 use oc_values::{Items, NoMemory};
 use rand_chacha::ChaCha20Rng;
 use rand_core::SeedableRng;
-use rand_core::utils::NextWord;
 use std::alloc::Global;
-
-/// The next word of the stream 0.
-#[tactic(auto, unfolding(crate::specs::Dealing::word))]
-fn next(rng: &mut ChaCha20Rng) -> u32
-    requires stream { rng.old.stream ≡ 0 }
-    requires room { rng.old.word_pos + 1 < 2 ^ 68 }
-    ensures word { result ≡ word rng.old.key rng.old.word_pos }
-    ensures place { rng.new ≡ record rng.old { word_pos = rng.old.word_pos + 1 } }
-{
-    rng.next_word()
-}
-
-/// The label of the next four words.
-fn next_label(rng: &mut ChaCha20Rng) -> Label
-    requires stream { rng.old.stream ≡ 0 }
-    requires room { rng.old.word_pos + 4 < 2 ^ 68 }
-    ensures label { result ≡ label_at rng.old.key rng.old.word_pos }
-    ensures place { rng.new ≡ record rng.old { word_pos = rng.old.word_pos + 4 } }
-{
-    let a = next(rng);
-    let b = next(rng);
-    let c = next(rng);
-    let d = next(rng);
-    u128::from(a) + (u128::from(b) << 32) + (u128::from(c) << 64) + (u128::from(d) << 96)
-}
 
 /// The bytes of the next four words.
 fn next_bytes(rng: &mut ChaCha20Rng) -> [u8; 16]
     requires stream { rng.old.stream ≡ 0 }
-    requires room { rng.old.word_pos + 4 < 2 ^ 68 }
+    requires within { rng.old.word_pos < 2 ^ 68 }
     ensures bytes { result ≡ bytes_at rng.old.key rng.old.word_pos }
-    ensures place { rng.new ≡ record rng.old { word_pos = rng.old.word_pos + 4 } }
+    ensures place { rng.new ≡ record rng.old { word_pos = (rng.old.word_pos + 4) % 2 ^ 68 } }
 {
-    field_of(next_label(rng))
+    label_field(next_label(rng))
 }
 
 /// Two times sixteen bytes.
@@ -105,7 +80,7 @@ pub fn deal(
     key: &[u8; 32],
     count: u32,
 ) -> Result<(SenderHalf, ReceiverHalf), NoMemory>
-    requires { count ≤ most }
+    requires { count ≤ most_transfers }
     ensures sender { IfOk result (λ halves. halves.0 ≡ sender_dealt key.now count) }
     ensures receiver { IfOk result (λ halves. receiver halves.1 ≡ receiver_dealt key.now count) }
     ensures counts { IfOk result (λ halves. (length halves.0.pads ≡ count) × (length halves.1.pads ≡ count)) }

@@ -2,15 +2,14 @@
 
 ghost use Rattle.std.specs.Prelude.{◌≡◌, ◌+◌, ◌<◌, ◌≤◌, ◌^◌, length};
 ghost use Rattle.dealt_transfer.specs.Faults.{bits_checks, count_at as count_there, first_found, opening_checks, receiver_fault as fault_of_receiver, sender_fault as fault_of_sender, size_checks};
-ghost use Rattle.dealt_transfer.specs.Packing.{byte_count as bytes_for};
 
 use crate::fault::HalfRule;
+use crate::half::MOST_TRANSFERS;
+use byteorder::{BigEndian, ByteOrder};
+use oc_values::packing::{byte_count, has_padding};
 
 /// A form fault: its rule and the byte at which it is.
 pub type Fault = (HalfRule, u64);
-
-/// How many transfers a half has at most.
-const MOST: u32 = 1_048_576;
 
 /// Where the number of transfers stands in a sender's file.
 pub const SENDER_COUNT_OFFSET: usize = 53;
@@ -18,25 +17,17 @@ pub const SENDER_COUNT_OFFSET: usize = 53;
 /// Where it stands in a receiver's.
 pub const RECEIVER_COUNT_OFFSET: usize = 21;
 
-/// How many bytes so many bits take.
-pub fn byte_count(bits: usize) -> usize
-    requires { bits < 2 ^ 32 }
-    ensures { result ≡ bytes_for bits }
-{
-    bits.div_ceil(8)
-}
-
-/// The number that stands at a place.
+/// The number that stands at a place, in four bytes, the highest first.
 pub fn count_at(bytes: &[u8], at: usize) -> u32
     requires { at + 4 ≤ length bytes.now }
     ensures { result ≡ count_there at bytes.now }
 {
-    let field = &bytes[at..at + 4];
-    u32::from_be_bytes([field[0], field[1], field[2], field[3]])
+    BigEndian::read_u32(&bytes[at..])
 }
 
-/// The first fault of the fields up to the number of transfers, which stands at a place.
-fn opening_fault(bytes: &[u8], magic: &[u8], at: usize) -> Option<Fault>
+/// The first fault of the fields up to the number, which stands at a place: the magic, the version 1, and the number,
+/// which is at most 1,048,576.
+pub fn opening_fault(bytes: &[u8], magic: &[u8], at: usize) -> Option<Fault>
     requires { at < 2 ^ 32 }
     ensures { result ≡ first_found (opening_checks magic.now at bytes.now) }
 {
@@ -56,14 +47,14 @@ fn opening_fault(bytes: &[u8], magic: &[u8], at: usize) -> Option<Fault>
     if bytes.len() < at + 4 {
         return Some((HalfRule::H3, end));
     }
-    if count_at(bytes, at) > MOST {
+    if count_at(bytes, at) > MOST_TRANSFERS {
         return Some((HalfRule::H3, at as u64));
     }
     None
 }
 
 /// The fault of a file that isn't of this size.
-fn size_fault(bytes: &[u8], size: usize) -> Option<Fault>
+pub fn size_fault(bytes: &[u8], size: usize) -> Option<Fault>
     ensures { result ≡ first_found (size_checks size bytes.now) }
 {
     if bytes.len() < size {
@@ -75,8 +66,8 @@ fn size_fault(bytes: &[u8], size: usize) -> Option<Fault>
     None
 }
 
-/// The fault of a file whose bits, so many, stand from a place on.
-fn bits_fault(bytes: &[u8], bits: usize, at: usize) -> Option<Fault>
+/// The fault of a file whose bits, so many, stand from a place on: its end before theirs, or a bit behind the last.
+pub fn bits_fault(bytes: &[u8], bits: usize, at: usize) -> Option<Fault>
     requires few { bits < 2 ^ 32 }
     requires near { at < 2 ^ 32 }
     ensures { result ≡ first_found (bits_checks bits at bytes.now) }
@@ -85,7 +76,7 @@ fn bits_fault(bytes: &[u8], bits: usize, at: usize) -> Option<Fault>
     if bytes.len() < at + size {
         return Some((HalfRule::H3, bytes.len() as u64));
     }
-    if bits % 8 != 0 && bytes[at + size - 1] >> (bits % 8) != 0 {
+    if has_padding(&bytes[at..], bits) {
         return Some((HalfRule::H4, (at + size - 1) as u64));
     }
     None

@@ -5,6 +5,9 @@ ghost use Rattle.std.specs.Prelude.{◌≡◌, length};
 use half_gates::Label;
 use oc_values::Items;
 
+/// How many transfers a half has at most.
+pub const MOST_TRANSFERS: u32 = 1_048_576;
+
 /// The sender's half: both pads of each transfer, and the key that its labels are made from.
 #[derive(Debug, Drop)]
 pub struct SenderHalf {

@@ -4,20 +4,24 @@
 //! bit and the pad of that bit. Each is written to a file and read from it (`write_sender_half`,
 //! `read_sender_half` and the same for the receiver). In a session the receiver sends a choice bit hidden by its
 //! bit (`choice_bit`), the sender answers both messages hidden by its pads (`mask_pair`), and the receiver takes
-//! out the one that it chose (`open_pair`). After D. Beaver, *Precomputing Oblivious Transfer* (Crypto 1995).
+//! out the one that it chose (`open_pair`). The sender's labels are drawn from its coin key (`CoinLabels`). `form` has
+//! what finds the first fault of a file of such fields. After D. Beaver, *Precomputing Oblivious Transfer* (Crypto 1995).
 #![tactic(auto)]
 
+pub mod coins;
 mod dealing;
 mod fault;
-mod form;
+pub mod form;
 mod half;
 mod reading;
+mod stream;
 mod transfer;
 mod writing;
 
+pub use coins::{CoinLabels, coin_label};
 pub use dealing::deal;
 pub use fault::{HalfFault, HalfRule};
-pub use half::{ReceiverHalf, SenderHalf};
+pub use half::{MOST_TRANSFERS, ReceiverHalf, SenderHalf};
 pub use reading::{read_receiver_half, read_sender_half};
 pub use transfer::{choice_bit, first_unmatched, mask_pair, open_pair};
 pub use writing::{write_receiver_half, write_sender_half};

@@ -1,21 +1,23 @@
 //! Reading the files of the halves.
 
-ghost use Rattle.std.specs.Prelude.{◌≡◌, ◌+◌, ◌*◌, ◌/◌, ◌≤◌, ◌<◌, ◌^◌, ℕ, Some, length, take, drop, map, IfOk};
-ghost use Rattle.std.specs.List.{AllByRecursion, flat_map, range_with_len};
+ghost use Rattle.std.specs.Prelude.{◌≡◌, ◌+◌, ◌*◌, ◌≤◌, ℕ, Some, length, take, drop, IfOk};
+ghost use Rattle.std.specs.List.{AllByRecursion, flat_map};
 ghost use Rattle.dealt_transfer.specs.declared.half.SenderHalf.{SenderHalf as Sender};
 ghost use Rattle.dealt_transfer.specs.declared.fault.HalfRule.{HalfRule as Rule};
 ghost use Rattle.dealt_transfer.specs.Halves.{IsLabel, IsPair, Receiver, receiver};
-ghost use Rattle.dealt_transfer.specs.Packing.{bit_in, byte_count as bytes_for};
+ghost use Rattle.oc_values.specs.Packing.{byte_count as bytes_for, unpack};
 ghost use Rattle.dealt_transfer.specs.Files.{Half1, Half2, label_bytes, pair_bytes};
 ghost use Rattle.dealt_transfer.specs.Faults.{receiver_fault as fault_of_receiver, sender_fault as fault_of_sender};
 ghost use Rattle.dealt_transfer.specs.Reading.{Gives, ReadsReceiver, ReadsSender, Refuses};
 
 use crate::fault::HalfFault;
 use crate::form::{
-    RECEIVER_COUNT_OFFSET, SENDER_COUNT_OFFSET, byte_count, count_at, receiver_fault, sender_fault,
+    RECEIVER_COUNT_OFFSET, SENDER_COUNT_OFFSET, count_at, receiver_fault, sender_fault,
 };
 use crate::half::{ReceiverHalf, SenderHalf};
+use byteorder::{ByteOrder, LittleEndian};
 use half_gates::Label;
+use oc_values::packing::{byte_count, unpack_bits};
 use oc_values::{Items, NoMemory};
 use std::alloc::Global;
 
@@ -45,7 +47,7 @@ fn label_at(bytes: &[u8], at: usize) -> Label
     ensures bytes { label_bytes result ≡ take 16 (drop at bytes.now) }
     ensures label { IsLabel result }
 {
-    u128::from_le_bytes(sixteen_at(bytes, at))
+    LittleEndian::read_u128(&bytes[at..])
 }
 
 /// The pairs of pads that stand from a place to the end.
@@ -87,24 +89,12 @@ fn read_labels(
     Ok(Items::from_vec(labels))
 }
 
-/// Whether a bit is 1, of those that stand from a place on.
-fn bit_at(bytes: &[u8], at: usize, i: usize) -> bool
-    requires { at + i / 8 < length bytes.now }
-    ensures { result ≡ bit_in (drop at bytes.now) i }
-{
-    (bytes[at + i / 8] >> (i % 8)) % 2 == 1
-}
-
 /// So many bits, which stand from a place on.
 fn read_bits(alloc: Global, bytes: &[u8], at: usize, count: usize) -> Result<Items<bool>, NoMemory>
     requires { at + bytes_for count ≤ length bytes.now }
-    ensures { IfOk result (λ bits. bits ≡ map (bit_in (drop at bytes.now)) (range_with_len 0 count)) }
+    ensures { IfOk result (λ bits. bits ≡ unpack count (drop at bytes.now)) }
 {
-    let mut bits = Vec::with_capacity(alloc, count)?;
-    for i in 0..count {
-        bits.push(bit_at(bytes, at, i))?;
-    }
-    Ok(Items::from_vec(bits))
+    unpack_bits(alloc, &bytes[at..], count)
 }
 
 /// The sender's half that a file has, or the first fault of the file's form.

@@ -1,5 +1,5 @@
 ghost use Rattle.std.specs.Prelude.{◌≤◌};
-ghost use Rattle.dealt_transfer.specs.Halves.{most};
+ghost use Rattle.dealt_transfer.specs.Halves.{most_transfers};
 
 use super::*;
 use oc_values::Items;
@@ -47,7 +47,7 @@ const BITS: [bool; 3] = [false, false, true];
 
 // Both files of a key's halves.
 fn files(alloc: Global, key: &[u8; 32], count: u32) -> Result<(Items<u8>, Items<u8>), Fail>
-    requires { count ≤ most }
+    requires { count ≤ most_transfers }
 {
     let (sender, receiver) = deal(alloc, key, count)?;
     Ok((

@@ -2,7 +2,7 @@
 
 ghost use Rattle.std.specs.Prelude.{◌≡◌, ◌<◌, ◌≤◌, ℕ, MatchOption, length, if◌then◌else◌};
 ghost use Rattle.dealt_transfer.specs.declared.half.SenderHalf.{SenderHalf as Sender};
-ghost use Rattle.dealt_transfer.specs.Halves.{most, receiver as receiver_of};
+ghost use Rattle.dealt_transfer.specs.Halves.{most_transfers, receiver as receiver_of};
 ghost use Rattle.dealt_transfer.specs.Transfers.{FirstUnmatched, Match, masked_pair, opened, sent_bit};
 
 use crate::dealing::chosen;
@@ -42,7 +42,7 @@ pub fn open_pair(half: &ReceiverHalf, i: u32, choice: bool, e0: Label, e1: Label
 pub fn first_unmatched(sender: &SenderHalf, receiver: &ReceiverHalf) -> Option<u32>
     requires tags { sender.now.tag ≡ receiver.now.tag }
     requires counts { length sender.now.pads ≡ length receiver.now.pads }
-    requires few { length sender.now.pads ≤ most }
+    requires few { length sender.now.pads ≤ most_transfers }
     ensures { MatchOption result (Match sender.now (receiver_of receiver.now)) (FirstUnmatched sender.now (receiver_of receiver.now)) }
 {
     let pairs = sender.pads.as_slice();

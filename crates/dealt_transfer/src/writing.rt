@@ -2,23 +2,34 @@
 
 ghost use Rattle.std.specs.Prelude.{◌≡◌, ◌≤◌, ◌++◌, length, IfOk, OnOk};
 ghost use Rattle.std.specs.List.{AllByRecursion, flat_map};
-ghost use Rattle.dealt_transfer.specs.Halves.{IsLabel, IsPair, most, receiver};
-ghost use Rattle.dealt_transfer.specs.Packing.{number_of, pack};
-ghost use Rattle.dealt_transfer.specs.Files.{Half1, Half2, label_bytes, pair_bytes};
+ghost use Rattle.dealt_transfer.specs.Halves.{IsLabel, IsPair, most_transfers, receiver};
+ghost use Rattle.dealt_transfer.specs.Files.{Half1, Half2, label_bytes, number_bytes, pair_bytes};
 
-use crate::form::byte_count;
 use crate::half::{ReceiverHalf, SenderHalf};
+use byteorder::{BigEndian, ByteOrder, LittleEndian};
 use half_gates::Label;
+use oc_values::packing::{byte_count, pack_bits};
 use oc_values::{Items, NoMemory};
 use std::alloc::Global;
 
 /// The bytes of a label, the lowest first.
 #[tactic(auto, unfolding(crate::specs::Files::label_bytes))]
-pub fn field_of(label: Label) -> [u8; 16]
+pub fn label_field(label: Label) -> [u8; 16]
     ensures bytes { result ≡ label_bytes label }
     ensures label { IsLabel label }
 {
-    label.to_le_bytes()
+    let mut field = [0; 16];
+    LittleEndian::write_u128(&mut field, label);
+    field
+}
+
+/// The bytes of a number, the highest first.
+fn number_field(number: u32) -> [u8; 4]
+    ensures { result ≡ number_bytes number }
+{
+    let mut field = [0; 4];
+    BigEndian::write_u32(&mut field, number);
+    field
 }
 
 /// Appends a tag.
@@ -43,8 +54,8 @@ fn put_pairs(out: &mut Vec<u8>, pairs: &[(Label, Label)]) -> Result<(), NoMemory
     ensures ok { OnOk result (out.new.items ≡ out.old.items ++ flat_map pair_bytes pairs.now) }
 {
     for (first, second) in pairs {
-        out.extend_from_slice(&field_of(*first))?;
-        out.extend_from_slice(&field_of(*second))?;
+        out.extend_from_slice(&label_field(*first))?;
+        out.extend_from_slice(&label_field(*second))?;
     }
     Ok(())
 }
@@ -55,44 +66,14 @@ fn put_labels(out: &mut Vec<u8>, labels: &[Label]) -> Result<(), NoMemory>
     ensures ok { OnOk result (out.new.items ≡ out.old.items ++ flat_map label_bytes labels.now) }
 {
     for label in labels {
-        out.extend_from_slice(&field_of(*label))?;
-    }
-    Ok(())
-}
-
-/// The number that at most eight bits make, the low one first.
-fn byte_of(bits: &[bool]) -> u8
-    requires { length bits.now ≤ 8 }
-    ensures { result ≡ number_of bits.now }
-{
-    let mut byte = 0;
-    for (i, bit) in bits.iter().enumerate() {
-        if *bit {
-            byte += 1 << i;
-        }
-    }
-    byte
-}
-
-/// Appends the bytes of bits.
-fn put_bits(out: &mut Vec<u8>, bits: &[bool]) -> Result<(), NoMemory>
-    ensures { OnOk result (out.new.items ≡ out.old.items ++ pack bits.now) }
-{
-    let mut rest = bits;
-    while rest.len() > 8 {
-        let (front, others) = rest.split_at(8);
-        out.push(byte_of(front))?;
-        rest = others;
-    }
-    if !rest.is_empty() {
-        out.push(byte_of(rest))?;
+        out.extend_from_slice(&label_field(*label))?;
     }
     Ok(())
 }
 
 /// The file of a sender's half.
 pub fn write_sender_half(alloc: Global, half: &SenderHalf) -> Result<Items<u8>, NoMemory>
-    requires { length half.now.pads ≤ most }
+    requires { length half.now.pads ≤ most_transfers }
     ensures { IfOk result (λ bytes. Half1 bytes half.now) }
 {
     let count = half.pads.len();
@@ -100,22 +81,22 @@ pub fn write_sender_half(alloc: Global, half: &SenderHalf) -> Result<Items<u8>, 
     out.extend_from_slice(b"OCHG\x01")?;
     put_tag(&mut out, &half.tag)?;
     put_key(&mut out, &half.coin_key)?;
-    out.extend_from_slice(&(count as u32).to_be_bytes())?;
+    out.extend_from_slice(&number_field(count as u32))?;
     put_pairs(&mut out, half.pads.as_slice())?;
     Ok(Items::from_vec(out))
 }
 
 /// The file of a receiver's half.
 pub fn write_receiver_half(alloc: Global, half: &ReceiverHalf) -> Result<Items<u8>, NoMemory>
-    requires { length half.now.pads ≤ most }
+    requires { length half.now.pads ≤ most_transfers }
     ensures { IfOk result (λ bytes. Half2 bytes (receiver half.now)) }
 {
     let count = half.pads.len();
     let mut out = Vec::with_capacity(alloc, 25 + byte_count(count) + 16 * count)?;
     out.extend_from_slice(b"OCHE\x01")?;
     put_tag(&mut out, &half.tag)?;
-    out.extend_from_slice(&(count as u32).to_be_bytes())?;
-    put_bits(&mut out, half.bits.as_slice())?;
+    out.extend_from_slice(&number_field(count as u32))?;
+    pack_bits(&mut out, half.bits.as_slice())?;
     put_labels(&mut out, half.pads.as_slice())?;
     Ok(Items::from_vec(out))
 }

@@ -3,10 +3,11 @@
 #![tactic(auto)]
 
 ghost use Rattle.std.specs.Prelude.{◌≤◌};
-ghost use Rattle.dealt_transfer.specs.Halves.{most};
+ghost use Rattle.dealt_transfer.specs.Halves.{most_transfers};
 
 use dealt_transfer::{
-    HalfFault, deal, read_receiver_half, read_sender_half, write_receiver_half, write_sender_half,
+    HalfFault, MOST_TRANSFERS, deal, read_receiver_half, read_sender_half, write_receiver_half,
+    write_sender_half,
 };
 use half_gates::{Label, eval_and, garble_and, hash_label};
 use oc_values::Items;
@@ -16,9 +17,6 @@ use std::{env, io};
 
 /// What labels for the bit 1 differ by.
 const DELTA: Label = 0x0123_4567_89ab_cdef_0123_4567_89ab_cdef;
-
-/// How many transfers a half has at most.
-const MOST: u32 = 1_048_576;
 
 /// Each hash is the next one's label.
 fn hash(count: u32) -> Label {
@@ -65,7 +63,7 @@ fn evaluate(count: u32) -> Label {
 
 /// Deals, and goes on to write both halves, and to read them again.
 fn halves(alloc: Global, count: u32, written: bool, read: bool) -> Result<usize, HalfFault>
-    requires { count ≤ most }
+    requires { count ≤ most_transfers }
 {
     let (sender, receiver) = deal(alloc, &[7; 32], count)?;
     if !written {
@@ -83,7 +81,7 @@ fn halves(alloc: Global, count: u32, written: bool, read: bool) -> Result<usize,
 
 /// The file of the sender's half, which alone is left.
 fn sender_file(alloc: Global, count: u32) -> Result<Items<u8>, HalfFault>
-    requires { count ≤ most }
+    requires { count ≤ most_transfers }
 {
     let (sender, _) = deal(alloc, &[7; 32], count)?;
     Ok(write_sender_half(alloc, &sender)?)
@@ -91,7 +89,7 @@ fn sender_file(alloc: Global, count: u32) -> Result<Items<u8>, HalfFault>
 
 /// Deals, goes on with the sender's half alone to write it, and with its file alone to read it again.
 fn sender_half(alloc: Global, count: u32, read: bool) -> Result<usize, HalfFault>
-    requires { count ≤ most }
+    requires { count ≤ most_transfers }
 {
     let file = sender_file(alloc, count)?;
     if !read {
@@ -107,12 +105,12 @@ fn work(alloc: Global, what: &str, count: u32) -> Option<u128> {
         "digest" => Some(digest(count)),
         "garble" => Some(garble(count)),
         "evaluate" => Some(evaluate(count)),
-        "deal" | "write" | "read" if count <= MOST => {
+        "deal" | "write" | "read" if count <= MOST_TRANSFERS => {
             halves(alloc, count, what != "deal", what == "read")
                 .ok()
                 .map(|n| n as u128)
         }
-        "write_sender" | "read_sender" if count <= MOST => {
+        "write_sender" | "read_sender" if count <= MOST_TRANSFERS => {
             sender_half(alloc, count, what == "read_sender")
                 .ok()
                 .map(|n| n as u128)

@@ -1,7 +1,7 @@
 //! The command `deal`.
 
 ghost use Rattle.std.specs.Prelude.{◌≡◌, ◌≢◌, ◌≤◌, ℕ, List, IfOk};
-ghost use Rattle.dealt_transfer.specs.Halves.{most};
+ghost use Rattle.dealt_transfer.specs.Halves.{most_transfers};
 ghost use Rattle.dealt_transfer.specs.Dealing.{sender_dealt, receiver_dealt};
 ghost use Rattle.dealt_transfer.specs.Files.{sender_file, receiver_file};
 ghost use Rattle.oblivc_main.specs.DealGiven.{deal_of};
@@ -36,7 +36,7 @@ fn dealt_files(
     key: &[u8; 32],
     count: u32,
 ) -> Result<(Items<u8>, Items<u8>), NoMemory>
-    requires { count ≤ most }
+    requires { count ≤ most_transfers }
     ensures first { IfOk result (λ files. files.0 ≡ sender_file (sender_dealt key.now count)) }
     ensures second { IfOk result (λ files. files.1 ≡ receiver_file (receiver_dealt key.now count)) }
 {
@@ -71,7 +71,7 @@ pub fn write_deal<V: Vault>(
     words: &DealWords<'_>,
     files: &mut V,
 ) -> Result<(), DealStop>
-    requires { words.now.count ≤ most }
+    requires { words.now.count ≤ most_transfers }
     ensures end { DealEnds (record {
       before = V.contents files.old;
       after = V.contents files.new;
@@ -120,7 +120,7 @@ pub fn run_deal<V: Vault, E: Sink>(
     files: &mut V,
     err: &mut E,
 ) -> u8
-    requires { words.now.count ≤ most }
+    requires { words.now.count ≤ most_transfers }
     ensures answered { DealAnswered (record {
       before = V.contents files.old;
       after = V.contents files.new;

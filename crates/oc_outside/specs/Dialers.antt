@@ -15,6 +15,18 @@ OnDialFailed (Line line) fact = ⊤
 OnDialFailed Failed fact = fact
 OnDialFailed NoMemory fact = ⊤
 
+-- a fact of every answer but a fault
+abbrev pub UnlessDialFailed : {L : Type 0} → DialAnswer L → Type 0 → Type 0
+UnlessDialFailed (Line line) fact = fact
+UnlessDialFailed Failed fact = ⊤
+UnlessDialFailed NoMemory fact = fact
+
+-- a fact where no line is handed out
+abbrev pub UnlessLine : {L : Type 0} → DialAnswer L → Type 0 → Type 0
+UnlessLine (Line line) fact = ⊤
+UnlessLine Failed fact = fact
+UnlessLine NoMemory fact = fact
+
 -- a fact where the dialer found no memory
 abbrev pub OnDialNoMemory : {L : Type 0} → DialAnswer L → Type 0 → Type 0
 OnDialNoMemory (Line line) fact = ⊤

@@ -19,6 +19,8 @@ pub record DialerState : Type 0 where
   -- the bytes that come on each line
   pub coming : List ℕ
   pub asked : List Asked
+  -- how many lines were handed out
+  pub handed : ℕ
   -- how many lines were closed, and the last of them
   pub closed : ℕ
   pub last : LineState

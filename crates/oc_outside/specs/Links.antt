@@ -21,6 +21,18 @@ OnRecvFailed (Got n) fact = ⊤
 OnRecvFailed Ended fact = ⊤
 OnRecvFailed Failed fact = fact
 
+-- a fact of every answer but a fault
+abbrev pub UnlessRecvFailed : RecvAnswer → Type 0 → Type 0
+UnlessRecvFailed (Got n) fact = fact
+UnlessRecvFailed Ended fact = fact
+UnlessRecvFailed Failed fact = ⊤
+
+-- a fact of every answer but the line's end
+abbrev pub UnlessEnded : RecvAnswer → Type 0 → Type 0
+UnlessEnded (Got n) fact = fact
+UnlessEnded Ended fact = ⊤
+UnlessEnded Failed fact = fact
+
 -- a fact where nothing was received
 abbrev pub UnlessGot : RecvAnswer → Type 0 → Type 0
 UnlessGot (Got n) fact = ⊤

@@ -17,6 +17,12 @@ OnPutFailed (Took n) fact = ⊤
 OnPutFailed NotTaken fact = fact
 OnPutFailed PutNoMemory fact = ⊤
 
+-- a fact of every answer but a fault
+abbrev pub UnlessPutFailed : PutAnswer → Type 0 → Type 0
+UnlessPutFailed (Took n) fact = fact
+UnlessPutFailed NotTaken fact = ⊤
+UnlessPutFailed PutNoMemory fact = fact
+
 -- a fact of every refusal
 abbrev pub UnlessTook : PutAnswer → Type 0 → Type 0
 UnlessTook (Took n) fact = ⊤
@@ -34,6 +40,12 @@ abbrev pub OnEndFailed : PutEnd → Type 0 → Type 0
 OnEndFailed Done fact = ⊤
 OnEndFailed NotDone fact = fact
 OnEndFailed EndNoMemory fact = ⊤
+
+-- a fact of every whole write that no fault ended
+abbrev pub UnlessEndFailed : PutEnd → Type 0 → Type 0
+UnlessEndFailed Done fact = fact
+UnlessEndFailed NotDone fact = ⊤
+UnlessEndFailed EndNoMemory fact = fact
 
 -- a fact of every whole write that ended early
 abbrev pub UnlessDone : PutEnd → Type 0 → Type 0

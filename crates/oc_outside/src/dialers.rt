@@ -20,16 +20,18 @@ pub enum Asked {
 
 /// What makes lines to the other party.
 pub trait Dialer {
-    ghost use Rattle.std.specs.Prelude.{◌≡◌, ℕ, ◌-◌, ◌^◌, ◌<◌, ◌≤◌, List, [], ◌∷◌, Option, IfSome};
+    ghost use Rattle.std.specs.Prelude.{◌≡◌, ℕ, ◌+◌, ◌-◌, ◌^◌, min, ◌<◌, ◌≤◌, List, [], ◌∷◌, Option, IfSome};
     ghost use Rattle.oc_outside.specs.Counts.{Rose};
     ghost use Rattle.oc_outside.specs.Told.{appended};
-    ghost use Rattle.oc_outside.specs.Dialers.{IfLine, OnDialFailed, OnDialNoMemory, UnlessDialNoMemory};
+    ghost use Rattle.oc_outside.specs.Dialers.{IfLine, OnDialFailed, OnDialNoMemory, UnlessDialFailed, UnlessDialNoMemory, UnlessLine};
     ghost use Rattle.oc_outside.specs.declared.dialers.Asked.{Asked};
 
     type Line: Link;
 
-    // How many faults there were, and how many lines were closed.
+    // How many faults there were, how many lines were handed out, and how many were closed.
     ghost faults: { Self → ℕ };
+
+    ghost handed: { Self → ℕ };
 
     ghost closed: { Self → ℕ };
 
@@ -50,6 +52,9 @@ pub trait Dialer {
         ensures never_falls { faults self.old ≤ faults self.new }
         ensures below_end { faults self.new < 2 ^ 64 }
         ensures failed { OnDialFailed result (Rose (faults self.old) (faults self.new)) }
+        ensures no_fault { UnlessDialFailed result (faults self.new ≡ faults self.old) }
+        ensures handed { IfLine result (λ _. handed self.new ≡ min (handed self.old + 1) (2 ^ 64 - 1)) }
+        ensures none_handed { UnlessLine result (handed self.new ≡ handed self.old) }
         ensures asked { UnlessDialNoMemory result (asked self.new ≡ appended (Asked.Listen address.now ∷ []) (asked self.old)) }
         ensures not_asked { OnDialNoMemory result (asked self.new ≡ asked self.old) }
         ensures closed { closed self.new ≡ closed self.old }
@@ -68,6 +73,9 @@ pub trait Dialer {
         ensures never_falls { faults self.old ≤ faults self.new }
         ensures below_end { faults self.new < 2 ^ 64 }
         ensures failed { OnDialFailed result (Rose (faults self.old) (faults self.new)) }
+        ensures no_fault { UnlessDialFailed result (faults self.new ≡ faults self.old) }
+        ensures handed { IfLine result (λ _. handed self.new ≡ min (handed self.old + 1) (2 ^ 64 - 1)) }
+        ensures none_handed { UnlessLine result (handed self.new ≡ handed self.old) }
         ensures asked { UnlessDialNoMemory result (asked self.new ≡ appended (Asked.Connect address.now ∷ []) (asked self.old)) }
         ensures not_asked { OnDialNoMemory result (asked self.new ≡ asked self.old) }
         ensures closed { closed self.new ≡ closed self.old }
@@ -85,9 +93,8 @@ pub trait Dialer {
     fn close(&mut self, line: Self::Line)
         ensures never_falls { faults self.old ≤ faults self.new }
         ensures below_end { faults self.new < 2 ^ 64 }
-        ensures closed_never_falls { closed self.old ≤ closed self.new }
-        ensures closed_below_end { closed self.new < 2 ^ 64 }
-        ensures rises { closed self.old < 2 ^ 64 - 1 → closed self.old < closed self.new }
+        ensures closed { closed self.new ≡ min (closed self.old + 1) (2 ^ 64 - 1) }
+        ensures handed { handed self.new ≡ handed self.old }
         ensures asked { asked self.new ≡ asked self.old }
         ensures last_sent { last_sent self.new ≡ Self.Line.sent line }
         ensures last_arrived { last_arrived self.new ≡ Self.Line.arrived line }

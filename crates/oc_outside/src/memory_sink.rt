@@ -53,7 +53,7 @@ impl Sink for MemorySink {
     ghost use Rattle.std.specs.Prelude.{◌≡◌, ◌↔◌, ◌+◌, ◌-◌, ◌^◌, ◌<◌, ◌≤◌, Contains, Some, length, take, min};
     ghost use Rattle.oc_outside.specs.Counts.{Rose};
     ghost use Rattle.oc_outside.specs.Told.{appended};
-    ghost use Rattle.oc_outside.specs.Sinks.{IfTook, OnPutFailed, UnlessTook};
+    ghost use Rattle.oc_outside.specs.Sinks.{IfTook, OnPutFailed, UnlessPutFailed, UnlessTook};
 
     ghost faults = { λ s. s.faults };
 
@@ -63,6 +63,7 @@ impl Sink for MemorySink {
         ensures never_falls { self.old.faults ≤ self.new.faults }
         ensures below_end { self.new.faults < 2 ^ 64 }
         ensures failed { OnPutFailed result (Rose self.old.faults self.new.faults) }
+        ensures no_fault { UnlessPutFailed result (self.new.faults ≡ self.old.faults) }
         ensures planned { (result ≡ PutAnswer.Failed) ↔ Contains self.old.failing self.old.calls }
         ensures calls { self.new.calls ≡ min (self.old.calls + 1) (2 ^ 64 - 1) }
         ensures failing { self.new.failing ≡ self.old.failing }

@@ -17,12 +17,14 @@ pub struct MemoryVault {
 
 impl MemoryVault {
     ghost use Rattle.std.specs.Prelude.{◌≡◌, ◌≢◌, ℕ, List, Some, None, IfSome, IfNone, OnOk, OnErr};
-    ghost use Rattle.oc_outside.specs.MemoryVault.{contents_of, calls_of, failing_of};
+    ghost use Rattle.oc_outside.specs.MemoryVault.{contents_of, calls_of, failing_of, faults_of, failed_of};
 
     /// A vault that holds nothing, and whose calls with the numbers `failing`, counted from 0, fail.
     pub fn new(alloc: Global, failing: Items<u64>) -> MemoryVault
         ensures failing { failing_of result ≡ failing }
         ensures calls { calls_of result ≡ 0 }
+        ensures faults { faults_of result ≡ 0 }
+        ensures failed { failed_of result ≡ None }
         ensures empty { (name : List ℕ) → contents_of result name ≡ Some None }
     {
         MemoryVault {
@@ -39,6 +41,8 @@ impl MemoryVault {
         ensures err { OnErr result ((n : List ℕ) → contents_of self.new n ≡ contents_of self.old n) }
         ensures calls { calls_of self.new ≡ calls_of self.old }
         ensures failing { failing_of self.new ≡ failing_of self.old }
+        ensures faults { faults_of self.new ≡ faults_of self.old }
+        ensures failed { failed_of self.new ≡ failed_of self.old }
     {
         self.files.set(name, bytes)
     }
@@ -73,6 +77,7 @@ impl Vault for MemoryVault {
         ensures failing { failing_of self.new ≡ failing_of self.old }
         ensures failed { OnReadFailed result (Rose (faults_of self.old) (faults_of self.new)) }
         ensures named { OnReadFailed result (IfSome (failed_of self.new) (λ last. last ≡ name.now)) }
+        ensures no_fault { UnlessReadFailed result (faults_of self.new ≡ faults_of self.old) }
         ensures others { UnlessReadFailed result (failed_of self.new ≡ failed_of self.old) }
 
         ensures bytes { IfBytes result (λ bytes. IfSome (contents_of self.old name.now)
@@ -97,6 +102,7 @@ impl Vault for MemoryVault {
         ensures failing { failing_of self.new ≡ failing_of self.old }
         ensures failed { OnWriteFailed result (Rose (faults_of self.old) (faults_of self.new)) }
         ensures named { OnWriteFailed result (IfSome (failed_of self.new) (λ last. last ≡ name.now)) }
+        ensures no_fault { UnlessWriteFailed result (faults_of self.new ≡ faults_of self.old) }
         ensures others { UnlessWriteFailed result (failed_of self.new ≡ failed_of self.old) }
 
         ensures written { OnWritten result (IfSome (contents_of self.new name.now) (λ held. held ≡ Some bytes.now)) }

@@ -1,6 +1,6 @@
 //! Which calls of an object in memory are to fail.
 
-ghost use Rattle.std.specs.Prelude.{◌≡◌, ◌+◌, ◌-◌, ◌^◌, ◌<◌, ◌≤◌, ◌↔◌, min, IsTrue, Contains};
+ghost use Rattle.std.specs.Prelude.{◌≡◌, ◌+◌, ◌-◌, ◌^◌, ◌<◌, ◌≤◌, ◌↔◌, min, IsFalse, IsTrue, Contains};
 ghost use Rattle.oc_outside.specs.Counts.{Rose};
 
 use oc_values::Items;
@@ -30,6 +30,7 @@ impl FaultPlan {
         ensures never_falls { self.old.faults ≤ self.new.faults }
         ensures below_end { self.new.faults < 2 ^ 64 }
         ensures rose { IsTrue result → Rose self.old.faults self.new.faults }
+        ensures no_fault { IsFalse result → self.new.faults ≡ self.old.faults }
         ensures calls { self.new.calls ≡ min (self.old.calls + 1) (2 ^ 64 - 1) }
         ensures failing { self.new.failing ≡ self.old.failing }
     {

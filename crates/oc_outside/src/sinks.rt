@@ -3,7 +3,7 @@
 ghost use Rattle.std.specs.Prelude.{◌≡◌, ℕ, ◌≤◌, length, take};
 ghost use Rattle.oc_outside.specs.Counts.{Rose};
 ghost use Rattle.oc_outside.specs.Told.{appended};
-ghost use Rattle.oc_outside.specs.Sinks.{OnDone, OnEndFailed, UnlessDone};
+ghost use Rattle.oc_outside.specs.Sinks.{OnDone, OnEndFailed, UnlessDone, UnlessEndFailed};
 
 /// What a sink answers: how many bytes of the piece it took, a fault, or want of memory.
 #[derive(Clone, Copy, Debug, PartialEq, Eq)]
@@ -26,7 +26,7 @@ pub trait Sink {
     ghost use Rattle.std.specs.Prelude.{◌≡◌, ℕ, ◌^◌, ◌<◌, ◌≤◌, List, length, take, Option};
     ghost use Rattle.oc_outside.specs.Counts.{Rose};
     ghost use Rattle.oc_outside.specs.Told.{appended};
-    ghost use Rattle.oc_outside.specs.Sinks.{IfTook, OnPutFailed, UnlessTook};
+    ghost use Rattle.oc_outside.specs.Sinks.{IfTook, OnPutFailed, UnlessPutFailed, UnlessTook};
 
     // How many faults there were.
     ghost faults: { Self → ℕ };
@@ -39,6 +39,7 @@ pub trait Sink {
         ensures never_falls { faults self.old ≤ faults self.new }
         ensures below_end { faults self.new < 2 ^ 64 }
         ensures failed { OnPutFailed result (Rose (faults self.old) (faults self.new)) }
+        ensures no_fault { UnlessPutFailed result (faults self.new ≡ faults self.old) }
 
         ensures within { IfTook result (λ n. n ≤ length piece.now) }
         ensures progress { IfTook result (λ n. 0 < length piece.now → 0 < n) }
@@ -51,6 +52,7 @@ pub fn write_all<S: Sink>(sink: &mut S, bytes: &[u8]) -> PutEnd
     ensures never_falls { S.faults sink.old ≤ S.faults sink.new }
     ensures done { OnDone result (S.written sink.new ≡ appended bytes.now (S.written sink.old)) }
     ensures failed { OnEndFailed result (Rose (S.faults sink.old) (S.faults sink.new)) }
+    ensures no_fault { UnlessEndFailed result (S.faults sink.new ≡ S.faults sink.old) }
     ensures refused { UnlessDone result ((n : ℕ) × (n ≤ length bytes.now)
         × (S.written sink.new ≡ appended (take n bytes.now) (S.written sink.old))) }
 {

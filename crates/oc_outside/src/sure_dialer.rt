@@ -1,6 +1,6 @@
 //! A dialer in memory that never fails.
 
-ghost use Rattle.std.specs.Prelude.{◌≡◌, [], ◌∷◌, ◌++◌};
+ghost use Rattle.std.specs.Prelude.{◌≡◌, ◌+◌, ◌-◌, ◌^◌, [], ◌∷◌, ◌++◌, min};
 ghost use Rattle.oc_outside.specs.Dialers.{IfLine, OnDialFailed, OnDialNoMemory};
 ghost use Rattle.oc_outside.specs.Lines.{new_line};
 
@@ -16,6 +16,7 @@ pub struct SureDialer {
     alloc: Global,
     coming: Items<u8>,
     asked: Items<Asked>,
+    handed: u64,
     closed: u64,
     last: SureLink,
 }
@@ -25,18 +26,19 @@ impl Model for SureDialer {
 
     ghost Value = { DialerState };
 
-    ghost view = { λ d. record { coming = d.coming; asked = d.asked; closed = d.closed; last = d.last } };
+    ghost view = { λ d. record { coming = d.coming; asked = d.asked; handed = d.handed; closed = d.closed; last = d.last } };
 }
 
 impl SureDialer {
     /// A dialer on whose lines these bytes come. The last line is at first one on which nothing comes.
     pub fn new(alloc: Global, coming: Items<u8>) -> SureDialer
-        ensures { result ≡ record { coming = coming; asked = []; closed = 0; last = new_line [] } }
+        ensures { result ≡ record { coming = coming; asked = []; handed = 0; closed = 0; last = new_line [] } }
     {
         SureDialer {
             alloc,
             coming,
             asked: Items::new(alloc),
+            handed: 0,
             closed: 0,
             last: SureLink::new(alloc, Items::new(alloc)),
         }
@@ -58,7 +60,10 @@ impl SureDialer {
 
     fn hand_out(&mut self, asked: Asked) -> DialAnswer<SureLink>
         ensures line { IfLine result (λ line. line ≡ new_line self.old.coming) }
-        ensures asked { IfLine result (λ _. self.new ≡ record self.old { asked = self.old.asked ++ asked ∷ [] }) }
+        ensures asked { IfLine result (λ _. self.new ≡ record self.old {
+          asked = self.old.asked ++ asked ∷ [];
+          handed = min (self.old.handed + 1) (2 ^ 64 - 1);
+        }) }
         ensures unchanged { OnDialNoMemory result (self.new ≡ self.old) }
         ensures never_failed { OnDialFailed result ⊥ }
     {
@@ -67,7 +72,10 @@ impl SureDialer {
             Err(_) => return DialAnswer::NoMemory,
         };
         match self.asked.push(asked) {
-            Ok(()) => DialAnswer::Line(SureLink::new(self.alloc, coming)),
+            Ok(()) => {
+                self.handed = self.handed.saturating_add(1);
+                DialAnswer::Line(SureLink::new(self.alloc, coming))
+            }
             Err(_) => DialAnswer::NoMemory,
         }
     }
@@ -79,6 +87,8 @@ impl Dialer for SureDialer {
     type Line = SureLink;
 
     ghost faults = { λ _. 0 };
+
+    ghost handed = { λ d. d.handed };
 
     ghost closed = { λ d. d.closed };
 

@@ -1,6 +1,6 @@
 //! A line in memory that never fails.
 
-ghost use Rattle.std.specs.Prelude.{◌≡◌, length, take, drop, min};
+ghost use Rattle.std.specs.Prelude.{◌≡◌, length, take, min};
 
 use crate::links::{Link, RecvAnswer};
 use crate::sinks::PutAnswer;
@@ -33,7 +33,6 @@ impl Model for SureLink {
 fn copy_front(into: &mut [u8], bytes: &[u8]) -> usize
     ensures count { result ≡ min (length into.old) (length bytes.now) }
     ensures front { take result into.new ≡ take result bytes.now }
-    ensures rest { drop result into.new ≡ drop result into.old }
 {
     let n = into.len().min(bytes.len());
     into[..n].copy_from_slice(&bytes[..n]);

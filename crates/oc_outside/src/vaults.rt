@@ -43,6 +43,7 @@ pub trait Vault {
 
         ensures failed { OnReadFailed result (Rose (faults self.old) (faults self.new)) }
         ensures named { OnReadFailed result (IfSome (failed self.new) (λ last. last ≡ name.now)) }
+        ensures no_fault { UnlessReadFailed result (faults self.new ≡ faults self.old) }
         ensures others { UnlessReadFailed result (failed self.new ≡ failed self.old) }
 
         ensures bytes { IfBytes result (λ bytes. IfSome (contents self.old name.now)
@@ -58,6 +59,7 @@ pub trait Vault {
 
         ensures failed { OnWriteFailed result (Rose (faults self.old) (faults self.new)) }
         ensures named { OnWriteFailed result (IfSome (failed self.new) (λ last. last ≡ name.now)) }
+        ensures no_fault { UnlessWriteFailed result (faults self.new ≡ faults self.old) }
         ensures others { UnlessWriteFailed result (failed self.new ≡ failed self.old) }
 
         ensures written { OnWritten result (IfSome (contents self.new name.now) (λ held. held ≡ Some bytes.now)) }

@@ -4,12 +4,14 @@
 //! for want of memory; `Shared` is a value with several owners. `IntKind` is a kind of integer of the
 //! language. `wrap`, `convert`, `operate`, `operate_one` and `public_op` are its arithmetic, by the definitions
 //! of `specs/Integers.antt`, and `promoted` and `common` the kinds of operands, by those of `specs/Kinds.antt`.
+//! `packing` puts bits into bytes, by the definitions of `specs/Packing.antt`.
 #![tactic(auto)]
 
 pub mod arithmetic;
 pub mod integers;
 pub mod kinds;
 pub mod lists;
+pub mod packing;
 pub mod shared;
 
 pub use arithmetic::{operate, operate_one, public_op};

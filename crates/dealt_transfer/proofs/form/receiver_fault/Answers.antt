@@ -1,5 +1,5 @@
 use Rattle.std.proofs.Common.{◌≡◌, ◌+◌, ◌*◌, ℕ, None, sym, ap, ◌∙◌}
-use Rattle.dealt_transfer.specs.Packing.{byte_count}
+use Rattle.oc_values.specs.Packing.{byte_count}
 use Rattle.dealt_transfer.specs.Files.{receiver_magic}
 use Rattle.dealt_transfer.specs.Faults.{count_at, first_found, opening_checks, bits_checks, size_checks}
 use Rattle.dealt_transfer.proofs.Faults.{receiver_opening, receiver_bits, receiver_sized}

@@ -1,10 +1,9 @@
-use Rattle.std.proofs.Common.{◌++◌, ◌∷◌, [], List, Bool, arith, sym, ap, ◌∙◌, drop}
-use Rattle.std.proofs.lemmas.List.FromFn.{map-range_with_len_more}
-use Rattle.dealt_transfer.specs.Packing.{bit_in}
+use Rattle.std.proofs.Common.{arith}
+use Rattle.std.proofs.lemmas.List.{take_rest, length-drop}
 use Rattle.dealt_transfer.proofs.reading.read_bits.Goals as goal
 
-pub loop-i-preserved : goal.loop-i-preserved
-loop-i-preserved c =
-    let read = bit_in (drop c.args.at c.args.bytes.now) in
-    c.in_ok-push.ensures.items ∙ ap (λ (b : Bool). c.loop-i.bits.items ++ b ∷ []) c.bit_at.ensures ∙ ap (λ (t : List Bool). t ++ read c.loop-i.i ∷ []) c.loop-i.invariant
-    ∙ sym (map-range_with_len_more read 0 c.loop-i.i c.loop-i.i (omega arith))
+pub unpack_bits-requires : goal.unpack_bits-requires
+unpack_bits-requires c = rw (take_rest c.args.bytes.now c.args.at) (let p = c.requires in omega (arith, p, length-drop c.args.at c.args.bytes.now))
+
+pub returns : goal.returns
+returns c = rw (take_rest c.args.bytes.now c.args.at) at c.unpack_bits.ensures

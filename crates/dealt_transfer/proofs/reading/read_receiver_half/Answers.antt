@@ -1,11 +1,11 @@
-use Rattle.std.proofs.Common.{◌≡◌, ◌+◌, ◌*◌, ◌≤◌, ℕ, List, Bool, length, take, drop, map, sym, ap, subst, ◌∙◌, arith}
-use Rattle.std.specs.List.{flat_map, range_with_len}
+use Rattle.std.proofs.Common.{◌≡◌, ◌+◌, ◌*◌, ◌≤◌, ℕ, List, Bool, length, take, drop, sym, ap, subst, ◌∙◌, arith}
+use Rattle.std.specs.List.{flat_map}
 use Rattle.std.proofs.lemmas.Option.{none-some}
 use Rattle.std.proofs.lemmas.List.FromFn.{length-map-range_with_len}
-use Rattle.dealt_transfer.specs.Packing.{bit_in, byte_count, pack}
+use Rattle.oc_values.specs.Packing.{bit_in, byte_count, pack, unpack}
 use Rattle.dealt_transfer.specs.Files.{Half2, label_bytes}
 use Rattle.dealt_transfer.specs.Faults.{count_at}
-use Rattle.dealt_transfer.proofs.Pieces.{IsBytes}
+use Rattle.oc_values.proofs.Packs.{IsBytes}
 use Rattle.dealt_transfer.proofs.Faults.{receiver_passes}
 use Rattle.dealt_transfer.proofs.Spelled.{receiver_read, same_receiver, receiver_faultless, bits_read}
 use Rattle.dealt_transfer.proofs.reading.read_receiver_half.Goals as goal
@@ -44,7 +44,7 @@ returns-clause-reads c =
     let fits : IsBytes bytes = λ i. omega (arith, c.type_inv.bytes i) in
     let bits : List Bool = c.in_ok-bits.bits in
     let pads : List ℕ = c.in_ok-pads.pads in
-    let bits_are : bits ≡ map (bit_in (drop 25 bytes)) (range_with_len 0 (count_at 21 bytes)) = c.in_ok-bits.ensures ∙ ap (λ (k : ℕ). map (bit_in (drop 25 bytes)) (range_with_len 0 k)) count in
+    let bits_are : bits ≡ unpack (count_at 21 bytes) (drop 25 bytes) = c.in_ok-bits.ensures ∙ ap (λ (k : ℕ). unpack k (drop 25 bytes)) count in
     let packed : pack bits ≡ take (byte_count (count_at 21 bytes)) (drop 25 bytes) = ap pack bits_are ∙ bits_read bytes fits passes.1 in
     let spelled : flat_map label_bytes pads ≡ drop (25 + byte_count (count_at 21 bytes)) bytes =
     c.in_ok-pads.ensures.bytes ∙ ap (λ (k : ℕ). drop (25 + k) bytes) (c.byte_count.ensures ∙ ap byte_count count) in

@@ -1,7 +1,7 @@
 use Rattle.std.proofs.Common.{◌+◌, ◌*◌, ℕ, List, take, drop, sym, ap, subst, ◌∙◌, arith}
 use Rattle.std.proofs.lemmas.Option.{none-some}
 use Rattle.dealt_transfer.specs.Files.{Half1}
-use Rattle.dealt_transfer.proofs.Pieces.{IsBytes}
+use Rattle.oc_values.proofs.Packs.{IsBytes}
 use Rattle.dealt_transfer.proofs.Faults.{sender_passes}
 use Rattle.dealt_transfer.proofs.Spelled.{sender_read, same_sender, sender_faultless}
 use Rattle.dealt_transfer.proofs.reading.read_sender_half.Goals as goal

@@ -11,8 +11,8 @@ loop-first-preserved c =
     let pairs = c.args.pairs.now in
     let i = c.loop-first.first-index in
     record {
-      written = pairs_put c.args.out.now.items c.loop-first.out.items c.extend_from_slice.new.self.items c.extend_from_slice-in-loop-first.new.self.items c.field_of.result c.field_of-in-loop-first.result pairs i
-          c.loop-first-test.true c.loop-first.invariant.written c.in_ok-extend_from_slice.ensures.items c.field_of.ensures.bytes c.in_ok-extend_from_slice-2.ensures.items c.field_of-in-loop-first.ensures.bytes;
+      written = pairs_put c.args.out.now.items c.loop-first.out.items c.extend_from_slice.new.self.items c.extend_from_slice-in-loop-first.new.self.items c.label_field.result c.label_field-in-loop-first.result pairs i
+          c.loop-first-test.true c.loop-first.invariant.written c.in_ok-extend_from_slice.ensures.items c.label_field.ensures.bytes c.in_ok-extend_from_slice-2.ensures.items c.label_field-in-loop-first.ensures.bytes;
       pads = subst (AllByRecursion IsPair) (sym (take_more pairs i (0, 0) c.loop-first-test.true))
-          (all_push IsPair (take i pairs) (get_or pairs i (0, 0)) c.loop-first.invariant.pads (c.field_of.ensures.label, c.field_of-in-loop-first.ensures.label));
+          (all_push IsPair (take i pairs) (get_or pairs i (0, 0)) c.loop-first.invariant.pads (c.label_field.ensures.label, c.label_field-in-loop-first.ensures.label));
     }

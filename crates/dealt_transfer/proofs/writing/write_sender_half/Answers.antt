@@ -14,7 +14,7 @@ returns c =
         count = c.requires;
         pads = subst (AllByRecursion IsPair) c.as_slice.ensures c.in_ok-put_pairs.ensures.pads;
       },
-      c.from_vec.ensures ∙ sender_written half c.in_ok-out.out.items c.extend_from_slice.new.self.items c.put_tag.new.out.items c.put_key.new.out.items c.extend_from_slice-2.new.self.items c.put_pairs.new.out.items c.to_be_bytes.result (flat_map pair_bytes c.as_slice.result.now)
+      c.from_vec.ensures ∙ sender_written half c.in_ok-out.out.items c.extend_from_slice.new.self.items c.put_tag.new.out.items c.put_key.new.out.items c.extend_from_slice-2.new.self.items c.put_pairs.new.out.items c.number_field.result (flat_map pair_bytes c.as_slice.result.now)
           c.in_ok-out.ensures.items c.in_ok-extend_from_slice.ensures.items c.in_ok-put_tag.ensures.ok c.in_ok-put_key.ensures.ok c.in_ok-extend_from_slice-2.ensures.items
-          (c.to_be_bytes.ensures ∙ ap number_bytes c.len-count.ensures) c.in_ok-put_pairs.ensures.ok (ap (flat_map pair_bytes) c.as_slice.ensures),
+          (c.number_field.ensures ∙ ap number_bytes c.len-count.ensures) c.in_ok-put_pairs.ensures.ok (ap (flat_map pair_bytes) c.as_slice.ensures),
     )

@@ -11,7 +11,7 @@ loop-at-preserved g c =
     let told = g.S.Sink.written c.args.sink.now in
     record {
       within = omega (arith, within);
-      never_falls = omega (arith, c.in-Took.ensures.never_falls);
+      no_fault = c.in-Took.ensures.no_fault ∙ c.loop-at.invariant.no_fault;
       written =
           took ∙ ap (appended (take c.in-Took.n _)) c.loop-at.invariant.written ∙ appended-next c.args.bytes.now c.loop-at.at c.in-Took.n told;
     }

@@ -1,6 +1,6 @@
 use Rattle.std.proofs.Common.{◌≡◌, ◌++◌, length}
-use Rattle.dealt_transfer.specs.Packing.{pack}
-use Rattle.dealt_transfer.proofs.writing.put_bits.Given as goal
+use Rattle.oc_values.specs.Packing.{pack}
+use Rattle.oc_values.proofs.packing.pack_bits.Given as goal
 
 abbrev pub invariant-loop-rest : goal.invariant-loop-rest
 invariant-loop-rest l = l.out.items ++ pack l.rest ≡ l.initial.out.items ++ pack l.bits
