@@ -1,6 +1,6 @@
 -- The literal that is read of a text is the one that it spells, and a text that is none breaks the rule that is told.
 use Rattle.std.proofs.Common.{◌≡◌, ℕ, Bool, true, false, cond, List, [], ◌∷◌, ◌++◌, get_or, drop, Option, Some, None, refl, sym, ap, subst, ◌∙◌, arith, inl, inr}
-use Rattle.std.specs.Prelude.{◌⊎◌, not, ◌&&◌, ◌||◌, nat_eq, codes}
+use Rattle.std.specs.Prelude.{not, ◌&&◌, ◌||◌, nat_eq, codes}
 use Rattle.std.specs.List.{list_all}
 use Rattle.std.specs.Map.{lookup}
 use Rattle.std.specs.Str.{bytes_eq}
@@ -17,13 +17,13 @@ use Rattle.oc_lexer.specs.declared.numbers.Form.TheVariants.{Decimal, Octal, Hex
 use Rattle.oc_lexer.specs.declared.numbers.Suffix.{Suffix}
 use Rattle.oc_lexer.specs.declared.token.LexRule.{LexRule}
 use Rattle.oc_lexer.specs.Bytes.{is_in, is_empty, begins_with, run, after}
-use Rattle.oc_lexer.specs.Numbers.{IsPrefix, digit_class, may_follow, WritesNumber, base_of, value_of, kinds_of, none_holds, IsFirstHolding, SpellsNumber, IsTooLarge, IsNoNumber}
+use Rattle.oc_lexer.specs.Numbers.{IsPrefix, digit_class, WritesNumber, base_of, value_of, kinds_of, none_holds, IsFirstHolding, SpellsNumber}
 use Rattle.oc_lexer.specs.ScannedNumbers.{form_of, prefix_length, digits_of, suffix_text, suffixes, suffix_of, first_holding, literal_where, literal, literal_of_kind, literal_with, number_value, literal_of}
 use Rattle.oc_lexer.specs.Sources.{IsNumberRule, IsRule}
 use Rattle.oc_lexer.specs.Scanned.{number_rule, rule_of}
 use Rattle.oc_lexer.proofs.Runs.{run-append-after, run_all, run_is, after_is}
 use Rattle.oc_lexer.proofs.Cuts.{literal_holds, literal_is}
-use Rattle.oc_lexer.proofs.Suffixes.{seen, Ending, suffix_read, suffix_spelled}
+use Rattle.oc_lexer.proofs.Suffixes.{Ending, suffix_read, suffix_spelled}
 
 -- ---- the kind of a number
 

@@ -23,6 +23,3 @@ mod words;
 
 pub use scan::lex;
 pub use token::{Keyword, LexFault, LexRule, Lexed, Sign, Token, TokenKind};
-
-#[cfg(test)]
-mod tests;
