@@ -1,5 +1,5 @@
 -- What a source that the rules accept means.
-use Rattle.std.proofs.Common.{◌≡◌, ℤ, List, Result, Ok, Err, true}
+use Rattle.std.proofs.Common.{◌≡◌, ℤ, List, Ok, Err, true}
 use Rattle.oc_walk.specs.declared.run.ShownItem.{ShownItem}
 use Rattle.oc_walk.specs.declared.run.ClearSetup.{ClearSetup}
 use Rattle.oc_walk.specs.declared.run.Value.{Value}

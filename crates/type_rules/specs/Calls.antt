@@ -6,7 +6,6 @@ use Rattle.oc_source.specs.declared.spot.Spot.{Spot}
 use Rattle.oc_cells.specs.declared.types.CType.{CType, Int, Nothing}
 use Rattle.oc_cells.specs.declared.types.CType.TheViews.{Pointer}
 use Rattle.oc_cells.specs.declared.types.SlotType.{SlotType}
-use Rattle.oc_source.specs.declared.parsed.UnaryOp.TheVariants.{Address}
 use Rattle.oc_typed.specs.declared.typed.TExpr.{TExpr}
 use Rattle.oc_typed.specs.declared.typed.TExprNode.{TExprNode, Number}
 use Rattle.oc_typed.specs.declared.typed.TExprNode as t

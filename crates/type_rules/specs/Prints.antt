@@ -1,5 +1,5 @@
 -- What a print is: its format, and the values that it takes.
-use Rattle.std.specs.Prelude.{if◌then◌else◌, ℕ, ◌+◌, nat_eq, nat_le, List, [], ◌∷◌, ◌++◌, length, Bool, true, false, ◌&&◌, Option, Some, None, Ok}
+use Rattle.std.specs.Prelude.{if◌then◌else◌, ℕ, nat_eq, nat_le, List, [], ◌∷◌, ◌++◌, length, Bool, true, false, ◌&&◌, Option, Some, None, Ok}
 use Rattle.oc_values.specs.declared.integers.IntKind.{IntKind}
 use Rattle.oc_values.specs.declared.integers.IntKind.TheVariants.{I32, U32, I64, U64}
 use Rattle.oc_values.specs.Integers.{width}
@@ -7,7 +7,6 @@ use Rattle.oc_source.specs.declared.spot.Spot.{Spot}
 use Rattle.oc_cells.specs.declared.types.CType.{Int, Nothing}
 use Rattle.oc_typed.specs.declared.typed.TExpr.{TExpr}
 use Rattle.oc_typed.specs.declared.typed.TExprNode as t
-use Rattle.oc_typed.specs.declared.typed.Builtin.{Builtin}
 use Rattle.oc_typed.specs.declared.typed.Builtin.TheVariants as own
 use Rattle.oc_typed.specs.declared.typed.PrintPiece.{PrintPiece}
 use Rattle.oc_typed.specs.declared.typed.PrintPiece.TheVariants as piece

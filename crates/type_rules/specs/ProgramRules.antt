@@ -8,7 +8,6 @@ use Rattle.oc_source.specs.declared.parsed.StructDef.{StructDef}
 use Rattle.oc_source.specs.declared.parsed.Param.{Param}
 use Rattle.oc_source.specs.declared.parsed.Function.{Function}
 use Rattle.oc_source.specs.declared.parsed.Program.{Program}
-use Rattle.oc_typed.specs.declared.typed.TExprNode as t
 use Rattle.oc_typed.specs.declared.typed.TStmt as typed
 use Rattle.oc_typed.specs.declared.typed.TypedFunction.{TypedFunction}
 use Rattle.oc_typing.specs.declared.program.Typed.{Typed}

@@ -2,7 +2,7 @@
 use Rattle.std.specs.Prelude.{ℕ, ◌+◌, nat_eq, List, [], ◌∷◌, ◌++◌, length, Bool, true, false, not, ◌&&◌, ◌||◌, Option, Some, None, Ok}
 use Rattle.oc_values.specs.declared.integers.IntKind.TheVariants.{Bool as KBool}
 use Rattle.oc_source.specs.declared.spot.Spot.{Spot}
-use Rattle.oc_cells.specs.declared.types.CType.{CType, Int, Nothing}
+use Rattle.oc_cells.specs.declared.types.CType.{CType, Int}
 use Rattle.oc_cells.specs.declared.types.SlotType.{SlotType}
 use Rattle.oc_source.specs.declared.parsed.Expr.{Expr}
 use Rattle.oc_source.specs.declared.parsed.Declared.{Declared}
@@ -20,7 +20,6 @@ use Rattle.type_rules.specs.declared.judging.Seen.{Seen}
 use Rattle.type_rules.specs.Judging.{Judged, next, needs, public_integer, is_nothing}
 use Rattle.oc_cells.specs.Types.{is_integer}
 use Rattle.type_rules.specs.Lookup.{Lookup, convert, converted, same_name}
-use Rattle.type_rules.specs.Operators.{field}
 use Rattle.type_rules.specs.Written.{field_type, is_frozen_place}
 use Rattle.type_rules.specs.Rules.{typed_value, typed_alone}
 
