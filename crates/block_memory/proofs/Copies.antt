@@ -9,8 +9,8 @@ use Rattle.oc_cells.specs.declared.trap.TrapKind.{TrapKind}
 use Rattle.oc_cells.specs.declared.trap.TrapKind.TheVariants.{M5}
 use Rattle.oc_cells.specs.Types.{same, fits}
 use Rattle.oc_cells.specs.Memory.{then, only, cell, load, loadable, storable, all_storable, take_over, copied, next}
-use Rattle.block_memory.specs.Content.{ahead}
-use Rattle.block_memory.proofs.Accesses.{ahead_none}
+use Rattle.block_memory.specs.Content.{further}
+use Rattle.block_memory.proofs.Accesses.{further_none}
 
 abbrev IsThere : {A : Type 0} → Option A → Type 0
 IsThere (Some x) = Unit {0}
@@ -29,9 +29,9 @@ less_one n i h = omega (arith, h)
 none_left : (n i : ℕ) → n ≤ i → n - i ≡ 0
 none_left n i h = omega (arith, h)
 
-next_ahead : (at : Address) (i : ℕ) → next (ahead at i) ≡ ahead at (i + 1)
-next_ahead Null i = refl
-next_ahead (At b o) i = ap (At b) (omega arith)
+next_further : (at : Address) (i : ℕ) → next (further at i) ≡ further at (i + 1)
+next_further Null i = refl
+next_further (At b o) i = ap (At b) (omega arith)
 
 drop_at : {A : Type 0} (xs : List A) (i : ℕ) (x : A) → slice_get xs i ≡ Some x → drop i xs ≡ x ∷ drop (suc i) xs
 drop_at [] i x e = absurd (no_element e)
@@ -56,55 +56,59 @@ get_is_some (x ∷ xs) zero h e = no_element (sym e)
 get_is_some (x ∷ xs) (suc i) h e = get_is_some xs i (omega (arith, h)) e
 
 module _ {H : Type 0} (bs : List (Block H)) (at : Address) (ls : List CType) where
-  pub loads_from_start : loadable bs at ls ≡ loadable bs (ahead at 0) (drop 0 ls)
-  loads_from_start = ap (λ a. loadable bs a ls) (sym (ahead_none at))
+  pub loads_from_start : loadable bs at ls ≡ loadable bs (further at 0) (drop 0 ls)
+  loads_from_start = ap (λ a. loadable bs a ls) (sym (further_none at))
 
-  pub stores_from_start : all_storable bs at ls ≡ all_storable bs (ahead at 0) (drop 0 ls)
-  stores_from_start = ap (λ a. all_storable bs a ls) (sym (ahead_none at))
+  pub stores_from_start : all_storable bs at ls ≡ all_storable bs (further at 0) (drop 0 ls)
+  stores_from_start = ap (λ a. all_storable bs a ls) (sym (further_none at))
 
-  at_load : (i : ℕ) (l : CType) → slice_get ls i ≡ Some l → loadable bs (ahead at i) (drop i ls) ≡ then (load bs (ahead at i) l) (λ _. loadable bs (ahead at (i + 1)) (drop (i + 1) ls))
-  at_load i l e = ap (loadable bs (ahead at i)) (drop_next ls i l e) ∙ ap (λ a. then (load bs (ahead at i) l) (λ _. loadable bs a (drop (i + 1) ls))) (next_ahead at i)
+  at_load : (i : ℕ) (l : CType) → slice_get ls i ≡ Some l → loadable bs (further at i) (drop i ls) ≡ then (load bs (further at i) l) (λ _. loadable bs (further at (i + 1)) (drop (i + 1) ls))
+  at_load i l e = ap (loadable bs (further at i)) (drop_next ls i l e) ∙ ap (λ a. then (load bs (further at i) l) (λ _. loadable bs a (drop (i + 1) ls))) (next_further at i)
 
-  at_store : (i : ℕ) (l : CType) → slice_get ls i ≡ Some l → all_storable bs (ahead at i) (drop i ls) ≡ then (storable bs (ahead at i) l) (λ _. all_storable bs (ahead at (i + 1)) (drop (i + 1) ls))
-  at_store i l e = ap (all_storable bs (ahead at i)) (drop_next ls i l e) ∙ ap (λ a. then (storable bs (ahead at i) l) (λ _. all_storable bs a (drop (i + 1) ls))) (next_ahead at i)
+  at_store : (i : ℕ) (l : CType) → slice_get ls i ≡ Some l → all_storable bs (further at i) (drop i ls) ≡ then (storable bs (further at i) l) (λ _. all_storable bs (further at (i + 1)) (drop (i + 1) ls))
+  at_store i l e = ap (all_storable bs (further at i)) (drop_next ls i l e) ∙ ap (λ a. then (storable bs (further at i) l) (λ _. all_storable bs a (drop (i + 1) ls))) (next_further at i)
 
   module _ (i : ℕ) (l m : CType) (e : Some l ≡ slice_get ls i) where
-    pub load_passes : (c : Cell H) → cell bs (ahead at i) ≡ Ok c → m ≡ c.leaf → fits l m ≡ true → loadable bs (ahead at i) (drop i ls) ≡ loadable bs (ahead at (i + 1)) (drop (i + 1) ls)
-    load_passes c f p q = at_load i l (sym e) ∙ ap (λ r. then (then r (λ c. only (fits l c.leaf) c.value)) (λ _. loadable bs (ahead at (i + 1)) (drop (i + 1) ls))) f ∙ ap (λ b. then (only b c.value) (λ _. loadable bs (ahead at (i + 1)) (drop (i + 1) ls))) (ap (fits l) (sym p) ∙ q)
+    pub load_passes : (c : Cell H) → cell bs (further at i) ≡ Ok c → m ≡ c.leaf → fits l m ≡ true → loadable bs (further at i) (drop i ls) ≡ loadable bs (further at (i + 1)) (drop (i + 1) ls)
+    load_passes c f p q = at_load i l (sym e) ∙ ap (λ r. then (then r (λ c. only (fits l c.leaf) c.value)) (λ _. loadable bs (further at (i + 1)) (drop (i + 1) ls))) f ∙ ap (λ b. then (only b c.value) (λ _. loadable bs (further at (i + 1)) (drop (i + 1) ls))) (ap (fits l) (sym p) ∙ q)
 
-    pub load_fails : (c : Cell H) → cell bs (ahead at i) ≡ Ok c → m ≡ c.leaf → fits l m ≡ false → loadable bs (ahead at i) (drop i ls) ≡ Err M5
-    load_fails c f p q = at_load i l (sym e) ∙ ap (λ r. then (then r (λ c. only (fits l c.leaf) c.value)) (λ _. loadable bs (ahead at (i + 1)) (drop (i + 1) ls))) f ∙ ap (λ b. then (only b c.value) (λ _. loadable bs (ahead at (i + 1)) (drop (i + 1) ls))) (ap (fits l) (sym p) ∙ q)
+    pub load_fails : (c : Cell H) → cell bs (further at i) ≡ Ok c → m ≡ c.leaf → fits l m ≡ false → loadable bs (further at i) (drop i ls) ≡ Err M5
+    load_fails c f p q = at_load i l (sym e) ∙ ap (λ r. then (then r (λ c. only (fits l c.leaf) c.value)) (λ _. loadable bs (further at (i + 1)) (drop (i + 1) ls))) f ∙ ap (λ b. then (only b c.value) (λ _. loadable bs (further at (i + 1)) (drop (i + 1) ls))) (ap (fits l) (sym p) ∙ q)
 
-    pub load_traps : (t : TrapKind) → cell bs (ahead at i) ≡ Err t → loadable bs (ahead at i) (drop i ls) ≡ Err t
-    load_traps t f = at_load i l (sym e) ∙ ap (λ r. then (then r (λ c. only (fits l c.leaf) c.value)) (λ _. loadable bs (ahead at (i + 1)) (drop (i + 1) ls))) f
+    pub load_traps : (t : TrapKind) → cell bs (further at i) ≡ Err t → loadable bs (further at i) (drop i ls) ≡ Err t
+    load_traps t f = at_load i l (sym e) ∙ ap (λ r. then (then r (λ c. only (fits l c.leaf) c.value)) (λ _. loadable bs (further at (i + 1)) (drop (i + 1) ls))) f
 
-    pub store_passes : (c : Cell H) → cell bs (ahead at i) ≡ Ok c → m ≡ c.leaf → same true l m ≡ true → all_storable bs (ahead at i) (drop i ls) ≡ all_storable bs (ahead at (i + 1)) (drop (i + 1) ls)
-    store_passes c f p q = at_store i l (sym e) ∙ ap (λ r. then (then r (λ c. only (same true l c.leaf) tt)) (λ _. all_storable bs (ahead at (i + 1)) (drop (i + 1) ls))) f ∙ ap (λ b. then (only b tt) (λ _. all_storable bs (ahead at (i + 1)) (drop (i + 1) ls))) (ap (same true l) (sym p) ∙ q)
+    pub store_passes : (c : Cell H) → cell bs (further at i) ≡ Ok c → m ≡ c.leaf → same true l m ≡ true → all_storable bs (further at i) (drop i ls) ≡ all_storable bs (further at (i + 1)) (drop (i + 1) ls)
+    store_passes c f p q = at_store i l (sym e) ∙ ap (λ r. then (then r (λ c. only (same true l c.leaf) tt)) (λ _. all_storable bs (further at (i + 1)) (drop (i + 1) ls))) f ∙ ap (λ b. then (only b tt) (λ _. all_storable bs (further at (i + 1)) (drop (i + 1) ls))) (ap (same true l) (sym p) ∙ q)
 
-    pub store_fails : (c : Cell H) → cell bs (ahead at i) ≡ Ok c → m ≡ c.leaf → same true l m ≡ false → all_storable bs (ahead at i) (drop i ls) ≡ Err M5
-    store_fails c f p q = at_store i l (sym e) ∙ ap (λ r. then (then r (λ c. only (same true l c.leaf) tt)) (λ _. all_storable bs (ahead at (i + 1)) (drop (i + 1) ls))) f ∙ ap (λ b. then (only b tt) (λ _. all_storable bs (ahead at (i + 1)) (drop (i + 1) ls))) (ap (same true l) (sym p) ∙ q)
+    pub store_fails : (c : Cell H) → cell bs (further at i) ≡ Ok c → m ≡ c.leaf → same true l m ≡ false → all_storable bs (further at i) (drop i ls) ≡ Err M5
+    store_fails c f p q = at_store i l (sym e) ∙ ap (λ r. then (then r (λ c. only (same true l c.leaf) tt)) (λ _. all_storable bs (further at (i + 1)) (drop (i + 1) ls))) f ∙ ap (λ b. then (only b tt) (λ _. all_storable bs (further at (i + 1)) (drop (i + 1) ls))) (ap (same true l) (sym p) ∙ q)
 
-    pub store_traps : (t : TrapKind) → cell bs (ahead at i) ≡ Err t → all_storable bs (ahead at i) (drop i ls) ≡ Err t
-    store_traps t f = at_store i l (sym e) ∙ ap (λ r. then (then r (λ c. only (same true l c.leaf) tt)) (λ _. all_storable bs (ahead at (i + 1)) (drop (i + 1) ls))) f
+    pub store_traps : (t : TrapKind) → cell bs (further at i) ≡ Err t → all_storable bs (further at i) (drop i ls) ≡ Err t
+    store_traps t f = at_store i l (sym e) ∙ ap (λ r. then (then r (λ c. only (same true l c.leaf) tt)) (λ _. all_storable bs (further at (i + 1)) (drop (i + 1) ls))) f
 
-  pub loads_end : (i : ℕ) → length ls ≤ i → loadable bs (ahead at i) (drop i ls) ≡ Ok tt
-  loads_end i h = ap (loadable bs (ahead at i)) (drop_end ls i h)
+  pub loads_end : (i : ℕ) → length ls ≤ i → loadable bs (further at i) (drop i ls) ≡ Ok tt
+  loads_end i h = ap (loadable bs (further at i)) (drop_end ls i h)
 
-  pub stores_end : (i : ℕ) → length ls ≤ i → all_storable bs (ahead at i) (drop i ls) ≡ Ok tt
-  stores_end i h = ap (all_storable bs (ahead at i)) (drop_end ls i h)
+  pub stores_end : (i : ℕ) → length ls ≤ i → all_storable bs (further at i) (drop i ls) ≡ Ok tt
+  stores_end i h = ap (all_storable bs (further at i)) (drop_end ls i h)
 
 -- what is left to copy, one cell less
-pub copied_step : {H : Type 0} (n i : ℕ) (bs now : List (Block H)) (to from : Address) → i < n → now ≡ take_over bs (ahead to i) (cell bs (ahead from i)) → copied (n - i) bs (ahead to i) (ahead from i) ≡ copied (n - (i + 1)) now (ahead to (i + 1)) (ahead from (i + 1))
+pub copied_step : {H : Type 0} (n i : ℕ) (bs now : List (Block H)) (to from : Address) → i < n → now ≡ take_over bs (further to i) (cell bs (further from i)) → copied (n - i) bs (further to i) (further from i) ≡ copied (n - (i + 1)) now (further to (i + 1)) (further from (i + 1))
 copied_step n i bs now to from h e =
-    ap (λ k. copied k bs (ahead to i) (ahead from i)) (less_one n i h) ∙ ap (λ a. copied (n - (i + 1)) (take_over bs (ahead to i) (cell bs (ahead from i))) a (next (ahead from i))) (next_ahead to i)
-    ∙ ap (λ a. copied (n - (i + 1)) (take_over bs (ahead to i) (cell bs (ahead from i))) (ahead to (i + 1)) a) (next_ahead from i)
-    ∙ ap (λ m. copied (n - (i + 1)) m (ahead to (i + 1)) (ahead from (i + 1))) (sym e)
+    ap (λ k. copied k bs (further to i) (further from i)) (less_one n i h) ∙ ap (λ a. copied (n - (i + 1)) (take_over bs (further to i) (cell bs (further from i))) a (next (further from i))) (next_further to i)
+    ∙ ap (λ a. copied (n - (i + 1)) (take_over bs (further to i) (cell bs (further from i))) (further to (i + 1)) a) (next_further from i)
+    ∙ ap (λ m. copied (n - (i + 1)) m (further to (i + 1)) (further from (i + 1))) (sym e)
 
 all_left : (n : ℕ) → n - 0 ≡ n
 all_left n = omega arith
 
-pub copied_start : {H : Type 0} (n : ℕ) (bs : List (Block H)) (to from : Address) → copied n bs to from ≡ copied (n - 0) bs (ahead to 0) (ahead from 0)
-copied_start n bs to from = sym (ap (λ k. copied k bs (ahead to 0) (ahead from 0)) (all_left n) ∙ ap (λ a. copied n bs a (ahead from 0)) (ahead_none to) ∙ ap (λ a. copied n bs to a) (ahead_none from))
+pub copied_start : {H : Type 0} (n : ℕ) (bs : List (Block H)) (to from : Address) → copied n bs to from ≡ copied (n - 0) bs (further to 0) (further from 0)
+copied_start n bs to from = sym (ap (λ k. copied k bs (further to 0) (further from 0)) (all_left n) ∙ ap (λ a. copied n bs a (further from 0)) (further_none to) ∙ ap (λ a. copied n bs to a) (further_none from))
 
 pub copied_end : {H : Type 0} (n i : ℕ) (bs : List (Block H)) (to from : Address) → n ≤ i → copied (n - i) bs to from ≡ bs
 copied_end n i bs to from h = ap (λ k. copied k bs to from) (none_left n i h)
+
+-- the same number of cells, as it is known of the leaves
+pub copied_as : {H : Type 0} (n k : ℕ) (bs now : List (Block H)) (to from : Address) → now ≡ copied n bs to from → n ≡ k → now ≡ copied k bs to from
+copied_as n k bs now to from e f = subst (λ m. now ≡ copied m bs to from) f e

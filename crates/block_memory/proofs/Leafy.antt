@@ -4,7 +4,8 @@ use Rattle.oc_cells.specs.declared.types.CType.{CType, Int, Pointer', Array', St
 use Rattle.oc_cells.specs.declared.types.FieldType.{FieldType}
 use Rattle.oc_cells.specs.declared.types.StructType.{StructType}
 use Rattle.oc_cells.specs.Layout.{repeated, or_none, leaves, leaves_row, field_leaves, leaves_after, struct_leaves}
-use Rattle.block_memory.specs.Content.{AreLeaves, AllAreLeaves}
+use Rattle.oc_cells.specs.Types.{AreLeaves}
+use Rattle.block_memory.specs.Content.{AllAreLeaves}
 
 leafy_join : (ks ls : List CType) → AreLeaves ks → AreLeaves ls → AreLeaves (ks ++ ls)
 leafy_join [] ls h j = j

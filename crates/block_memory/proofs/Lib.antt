@@ -3,7 +3,7 @@ pub mod Accesses
 pub mod Writes
 pub mod Copies
 pub mod Growing
-pub mod Formed
+pub mod Blanks
 pub mod Leafy
 pub mod Living
 pub mod Making

@@ -1,14 +1,10 @@
 -- The number of live cells as blocks are made and end.
-use Rattle.std.proofs.Common.{ℕ, zero, suc, ◌+◌, ◌*◌, ◌≤◌, ◌<◌, ◌^◌, ◌≡◌, refl, sym, ap, ◌∙◌, subst, List, [], ◌∷◌, ◌++◌, length, Option, Some, None, slice_get, slice_set, arith, Bool, max}
+use Rattle.std.proofs.Common.{ℕ, zero, suc, ◌+◌, ◌≤◌, ◌<◌, ◌^◌, ◌≡◌, refl, sym, ap, subst, List, [], ◌∷◌, ◌++◌, length, Option, Some, None, slice_get, slice_set, arith, Bool, max}
 use Rattle.std.specs.Option.{unwrap_or}
-use Rattle.oc_values.specs.declared.integers.IntKind.{IntKind}
-use Rattle.oc_cells.specs.declared.types.CType.{CType}
 use Rattle.oc_cells.specs.declared.memory.Cell.{Cell}
 use Rattle.oc_cells.specs.declared.memory.Block.{Block}
 use Rattle.oc_cells.specs.declared.memory.Block.TheVariants.{Live, Gone}
-use Rattle.oc_cells.specs.Layout.{repeated}
-use Rattle.oc_cells.specs.Memory.{weight, living, blanks, ended}
-use Rattle.oc_cells.proofs.Lengths.{length_repeated}
+use Rattle.oc_cells.specs.Memory.{weight, living, ended}
 use Rattle.oc_cells.proofs.Updates.{set_update}
 
 abbrev pub LengthIn : {H : Type 0} → ℕ → Option (Block H) → Type 0
@@ -58,13 +54,6 @@ module _ {H : Type 0} where
   living_more [] b = omega arith
   living_more (c ∷ bs) b = let w = living_more bs b in omega (arith, w)
 
-  weight_of_cells : (a : Bool) (cs : List (Cell H)) → weight (Live a cs) ≡ max 1 (length cs)
+  pub weight_of_cells : (a : Bool) (cs : List (Cell H)) → weight (Live a cs) ≡ max 1 (length cs)
   weight_of_cells a [] = refl
   weight_of_cells a (c ∷ cs) = grind arith
-
-  length_blanks : (zero_of : IntKind → H) (ls : List CType) → length (blanks zero_of ls) ≡ length ls
-  length_blanks zero_of [] = refl
-  length_blanks zero_of (l ∷ ls) = ap (λ n. suc n) (length_blanks zero_of ls)
-
-  pub weight_of_copies : (zero_of : IntKind → H) (a : Bool) (n : ℕ) (ls : List CType) → weight (Live a (blanks zero_of (repeated n ls))) ≡ max 1 (n * length ls)
-  weight_of_copies zero_of a n ls = weight_of_cells a (blanks zero_of (repeated n ls)) ∙ ap (max 1) (length_blanks zero_of (repeated n ls) ∙ length_repeated n ls)

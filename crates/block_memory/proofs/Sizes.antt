@@ -5,10 +5,10 @@ use Rattle.std.proofs.lemmas.Bool.{cases_lt}
 use Rattle.std.proofs.lemmas.Option.{slice_get_past}
 use Rattle.std.proofs.lemmas.Nat.{div-add-mod', mod_below, mul-add-lt}
 use Rattle.oc_cells.specs.declared.types.CType.{CType, Array}
-use Rattle.oc_cells.specs.Layout.{leaves, repeated}
+use Rattle.oc_cells.specs.Layout.{leaves, repeated, has_size}
 use Rattle.oc_cells.proofs.Lengths.{length_repeated}
 use Rattle.oc_cells.proofs.Views.{leaves_array}
-use Rattle.block_memory.specs.Content.{Counts, FindsLeaf, has_size}
+use Rattle.block_memory.specs.Content.{Counts, FindsLeaf}
 
 pub length_array : (ss : List (List CType)) (n : ℕ) (t : CType) → length (leaves ss (Array n t)) ≡ n * length (leaves ss t)
 length_array ss n t = ap length (leaves_array ss n t) ∙ length_repeated n (leaves ss t)

@@ -10,7 +10,7 @@ use Rattle.oc_cells.specs.Memory.{update, written, in_live, put, weight, living,
 use Rattle.oc_cells.specs.declared.trap.TrapKind.{TrapKind}
 use Rattle.std.proofs.Common.{Result, Ok, Err}
 use Rattle.oc_cells.proofs.Updates.{set_update, set_twice}
-use Rattle.block_memory.specs.Content.{ahead}
+use Rattle.block_memory.specs.Content.{further}
 
 pub update_past : {A : Type 0} (f : A → A) (xs : List A) (i : ℕ) → length xs ≤ i → update f xs i ≡ xs
 update_past f [] i h = refl
@@ -26,14 +26,14 @@ module _ {H : Type 0} (v : CellValue H) where
   abbrev pub writing : ℕ → Block H → Block H
   writing i = in_live (λ cells. update (written v) cells i)
 
-  pub put_live : (old mid new : List (Block H)) (at : Address) (b o n i : ℕ) (a : Bool) (cells now : List (Cell H)) → at ≡ At b o → mid ≡ slice_set old b Gone → new ≡ slice_set mid b (Live a now) → now ≡ update (written v) cells i → i ≡ o + n → slice_get old b ≡ Some (Live a cells) → new ≡ put old (ahead at n) v
+  pub put_live : (old mid new : List (Block H)) (at : Address) (b o n i : ℕ) (a : Bool) (cells now : List (Cell H)) → at ≡ At b o → mid ≡ slice_set old b Gone → new ≡ slice_set mid b (Live a now) → now ≡ update (written v) cells i → i ≡ o + n → slice_get old b ≡ Some (Live a cells) → new ≡ put old (further at n) v
   put_live old mid new at b o n i a cells now e f g h j k =
       rw (e) (g ∙ ap (λ m. slice_set m b (Live a now)) f ∙ set_twice old b Gone (Live a now) ∙ ap (λ cs. slice_set old b (Live a cs)) (h ∙ ap (update (written v) cells) j) ∙ set_update (writing (o + n)) old b (Live a cells) k)
 
-  pub put_gone : (old new : List (Block H)) (at : Address) (b o n : ℕ) → at ≡ At b o → new ≡ slice_set old b Gone → slice_get old b ≡ Some Gone → new ≡ put old (ahead at n) v
+  pub put_gone : (old new : List (Block H)) (at : Address) (b o n : ℕ) → at ≡ At b o → new ≡ slice_set old b Gone → slice_get old b ≡ Some Gone → new ≡ put old (further at n) v
   put_gone old new at b o n e f k = rw (e) (f ∙ set_update (writing (o + n)) old b Gone k)
 
-  pub put_past : (old : List (Block H)) (at : Address) (b o n : ℕ) → at ≡ At b o → length old ≤ b → old ≡ put old (ahead at n) v
+  pub put_past : (old : List (Block H)) (at : Address) (b o n : ℕ) → at ≡ At b o → length old ≤ b → old ≡ put old (further at n) v
   put_past old at b o n e h = rw (e) (sym (update_past (writing (o + n)) old b h))
 
   weight_writing : (i : ℕ) (b : Block H) → weight (writing i b) ≡ weight b

@@ -1,14 +1,15 @@
 //! The blocks of a run.
 
-ghost use Rattle.std.specs.Prelude.{◌≡◌, ◌+◌, ◌≤◌, ◌^◌, pos, ◌+ℤ◌, ◌*ℤ◌, nat_le, nat_lt, ◌&&◌, ◌<◌, ◌*◌, ◌++◌, max, length, slice_get, [], IfOk, OnOk, IsTrue};
-ghost use Rattle.oc_cells.specs.Layout.{leaves, struct_leaves, repeated};
-ghost use Rattle.oc_cells.specs.Memory.{load, store, storable, copy, offset, placed, ended, free, living, make_copies, blanks, HasForm};
-ghost use Rattle.block_memory.specs.Content.{Memory, has_size, is_live, Changes, Makes, IsKept};
+ghost use Rattle.std.specs.Prelude.{◌≡◌, ◌^◌, pos, ◌+ℤ◌, ◌*ℤ◌, ◌<◌, length, slice_get, [], IfOk, IfErr, OnOk, IsTrue, Ok, Err};
+ghost use Rattle.std.specs.Option.{option_copied};
+ghost use Rattle.oc_cells.specs.Layout.{leaves, struct_leaves, repeated, has_size, size_of};
+ghost use Rattle.oc_cells.specs.Memory.{cell, load, store, storable, put, copyable, copy, offset, placed, ended, free, is_live, HasForm};
+ghost use Rattle.block_memory.specs.Content.{Memory, further, has_room, Adds, Changes, Makes, MakesExactly, IsKept};
 
 use crate::cells::{find_cell, put_cell, weigh};
 use crate::copying::{check_loads, check_stores, copy_all};
 use crate::hidden::{HiddenCell, copy_value};
-use crate::layout::{Table, count_cells, push_blanks};
+use crate::layout::{Table, count_cells, leaf_at, push_blanks};
 use oc_cells::{
     Address, Block, CType, Cell, CellValue, Row, StructType, TrapKind, fits_type, same_type,
     table_of,
@@ -93,6 +94,22 @@ impl<'t, C: HiddenCell + Drop> Blocks<'t, C> {
         1 <= cells && cells <= MOST_CELLS
     }
 
+    /// How many cells a type has, and 0 where it has none or more than 65,536. Takes no memory.
+    pub fn size_of(&self, ty: &CType) -> u32
+        ensures { result ≡ size_of self.now.structs ty.now }
+    {
+        let cells = count_cells(&self.structs, ty);
+        if cells <= MOST_CELLS { cells } else { 0 }
+    }
+
+    /// The leaf of a type with this number, from 0, if it has so many. Takes no memory.
+    pub fn leaf<'a>(&'a self, ty: &'a CType, number: u32) -> Option<&'a CType>
+        requires { IsTrue (has_size (leaves self.now.structs ty.now)) }
+        ensures { option_copied result ≡ slice_get (leaves self.now.structs ty.now) number }
+    {
+        leaf_at(&self.structs, ty, number)
+    }
+
     /// Whether a block of this number was made, and neither ended nor was freed. Takes no memory.
     pub fn is_live(&self, block: u64) -> bool
         ensures { result ≡ is_live (slice_get self.now.blocks block) }
@@ -102,13 +119,14 @@ impl<'t, C: HiddenCell + Drop> Blocks<'t, C> {
 
     /// Whether so many copies of so many cells fit beside those that live.
     fn has_room(&self, cells: u32, count: u32) -> bool
-        ensures { result ≡ (nat_le (living self.now.blocks + max 1 (count * cells)) self.now.limit && nat_lt (length self.now.blocks) (2 ^ 63)) }
+        ensures { result ≡ has_room self.now cells (pos count) }
     {
         let weight = (u64::from(count) * u64::from(cells)).max(1);
         self.live + weight <= u64::from(self.limit) && self.blocks.len() < MOST_BLOCKS
     }
 
-    /// A new live block of `count` copies of the cells of a type, zero and null everywhere. Its number.
+    /// A new live block of `count` copies of the cells of a type, zero and null everywhere. Its number. Where each
+    /// kind has one zero, what stands then is the memory's own meaning of a new block with these zeros.
     pub fn make_block(
         &mut self,
         ty: &'t CType,
@@ -116,7 +134,8 @@ impl<'t, C: HiddenCell + Drop> Blocks<'t, C> {
         allocated: bool,
     ) -> Result<u64, MakeRefusal>
         requires { IsTrue (has_size (leaves self.old.structs ty.now)) }
-        ensures { Makes (make_copies C.zero_of self.old.limit allocated self.old.blocks (leaves self.old.structs ty.now) count) result self.old self.new }
+        ensures makes { Makes C.is_zero_of allocated (leaves self.old.structs ty.now) count result self.old self.new }
+        ensures exactly { MakesExactly C.is_zero_of allocated (leaves self.old.structs ty.now) count result self.old self.new }
     {
         let each = count_cells(&self.structs, ty);
         let Ok(copies) = u32::try_from(count) else {
@@ -192,14 +211,39 @@ impl<'t, C: HiddenCell + Drop> Blocks<'t, C> {
         Ok(())
     }
 
+    /// The cell so many places after an address. Takes no memory.
+    pub fn cell(&self, at: Address, places: u32) -> Result<&Cell<'t, C>, TrapKind>
+        ensures found { IfOk result (λ found. cell self.now.blocks (further at places) ≡ Ok found.now) }
+        ensures trap { IfErr result (λ kind. cell self.now.blocks (further at places) ≡ Err kind) }
+    {
+        find_cell(&self.blocks, at, places)
+    }
+
+    /// Writes the cell at an address, of whose leaf's form the value is, where there is one. Takes no memory.
+    pub fn put(&mut self, at: Address, value: CellValue<C>)
+        requires { IfOk (cell self.old.blocks at) (λ found. HasForm found.leaf value) }
+        ensures { self.new ≡ record self.old { blocks = put self.old.blocks at value } }
+    {
+        put_cell(&mut self.blocks, at, 0, value);
+    }
+
+    /// The first trap that a copy of the cells of a type meets: those of its reads, then those of its writes. Takes
+    /// no memory.
+    pub fn check_copy(&self, to: Address, from: Address, ty: &CType) -> Result<(), TrapKind>
+        requires { IsTrue (has_size (leaves self.now.structs ty.now)) }
+        ensures { result ≡ copyable self.now.blocks to from (leaves self.now.structs ty.now) }
+    {
+        check_loads(&self.blocks, from, &self.structs, ty)?;
+        check_stores(&self.blocks, to, &self.structs, ty)
+    }
+
     /// Copies the cells of a type from one address to another in ascending order, each read just before it is
     /// written, after all were checked. Takes no memory.
     pub fn copy_cells(&mut self, to: Address, from: Address, ty: &CType) -> Result<(), TrapKind>
         requires { IsTrue (has_size (leaves self.old.structs ty.now)) }
         ensures { Changes (copy self.old.blocks to from (leaves self.old.structs ty.now)) result self.old self.new }
     {
-        check_loads(&self.blocks, from, &self.structs, ty)?;
-        check_stores(&self.blocks, to, &self.structs, ty)?;
+        self.check_copy(to, from, ty)?;
         copy_all(&mut self.blocks, to, from, count_cells(&self.structs, ty));
         Ok(())
     }
@@ -225,7 +269,7 @@ fn push_copies<'t, C: HiddenCell + Drop>(
     count: u32,
     out: &mut Row<Cell<'t, C>>,
 ) -> Result<(), AllocError>
-    ensures { OnOk result (out.new ≡ out.old ++ blanks C.zero_of (repeated count (leaves table.now ty.now))) }
+    ensures { OnOk result (Adds C.is_zero_of (repeated count (leaves table.now ty.now)) out.old out.new) }
 {
     for _ in 0..count {
         push_blanks(table, ty, out)?;

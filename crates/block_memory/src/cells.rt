@@ -2,7 +2,7 @@
 
 ghost use Rattle.std.specs.Prelude.{◌≡◌, Ok, Err, IfOk, IfErr};
 ghost use Rattle.oc_cells.specs.Memory.{cell, put, update, written, weight};
-ghost use Rattle.block_memory.specs.Content.{ahead};
+ghost use Rattle.block_memory.specs.Content.{further};
 
 use oc_cells::{Address, Block, Cell, CellValue, Row, TrapKind};
 
@@ -12,8 +12,8 @@ pub fn find_cell<'a, 't, C>(
     at: Address,
     places: u32,
 ) -> Result<&'a Cell<'t, C>, TrapKind>
-    ensures found { IfOk result (λ found. cell blocks.now (ahead at places) ≡ Ok found.now) }
-    ensures trap { IfErr result (λ kind. cell blocks.now (ahead at places) ≡ Err kind) }
+    ensures found { IfOk result (λ found. cell blocks.now (further at places) ≡ Ok found.now) }
+    ensures trap { IfErr result (λ kind. cell blocks.now (further at places) ≡ Err kind) }
 {
     match at {
         Address::Null => Err(TrapKind::M3),
@@ -46,7 +46,7 @@ pub fn put_cell<'t, C: Drop>(
     places: u32,
     value: CellValue<C>,
 )
-    ensures { blocks.new ≡ put blocks.old (ahead at places) value }
+    ensures { blocks.new ≡ put blocks.old (further at places) value }
 {
     if let Address::At { block, offset } = at {
         let number = block as usize;

@@ -3,7 +3,7 @@
 ghost use Rattle.std.specs.Prelude.{◌≡◌, ◌≤◌, length};
 ghost use Rattle.oc_cells.specs.Layout.{leaves};
 ghost use Rattle.oc_cells.specs.Memory.{loadable, all_storable, copied, take_over, cell};
-ghost use Rattle.block_memory.specs.Content.{ahead};
+ghost use Rattle.block_memory.specs.Content.{further};
 
 use crate::cells::{find_cell, put_cell};
 use crate::hidden::{HiddenCell, copy_value};
@@ -67,7 +67,7 @@ fn copy_one<C: HiddenCell + Drop>(
     from: Address,
     place: u32,
 )
-    ensures { blocks.new ≡ take_over blocks.old (ahead to place) (cell blocks.old (ahead from place)) }
+    ensures { blocks.new ≡ take_over blocks.old (further to place) (cell blocks.old (further from place)) }
 {
     if let Ok(cell) = find_cell(blocks, from, place) {
         let value = copy_value(&cell.value);

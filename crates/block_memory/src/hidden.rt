@@ -9,11 +9,12 @@ use oc_values::IntKind;
 pub trait HiddenCell {
     ghost use Rattle.oc_values.specs.declared.integers.IntKind.{IntKind};
 
-    ghost zero_of: { IntKind → Self };
+    // Holds of each value that `zero` may answer for a kind.
+    ghost is_zero_of: { IntKind → Self → Type 0 };
 
-    /// The 0 of a kind, which a new cell holds. Takes no memory.
+    /// A 0 of a kind, which a new cell holds. Takes no memory.
     fn zero(kind: IntKind) -> Self
-        ensures { result ≡ zero_of kind };
+        ensures { is_zero_of kind result };
 
     /// An equal value. Takes no memory.
     fn copy(&self) -> Self
@@ -33,9 +34,9 @@ pub fn copy_value<C: HiddenCell>(value: &CellValue<C>) -> CellValue<C>
 
 /// The direct run keeps hidden integers as they are.
 impl HiddenCell for i128 {
-    ghost use Rattle.std.specs.Prelude.{pos};
+    ghost use Rattle.std.specs.Prelude.{◌≡◌, pos};
 
-    ghost zero_of = { λ kind. pos 0 };
+    ghost is_zero_of = { λ kind value. value ≡ pos 0 };
 
     fn zero(_kind: IntKind) -> i128 {
         0

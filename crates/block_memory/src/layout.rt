@@ -1,10 +1,9 @@
 //! The cells of a type, found without taking memory.
 
-ghost use Rattle.std.specs.Prelude.{◌≡◌, ◌++◌, ◌∷◌, [], length, OnOk};
+ghost use Rattle.std.specs.Prelude.{◌∷◌, [], length, OnOk};
 ghost use Rattle.std.specs.Option.{option_copied};
 ghost use Rattle.oc_cells.specs.Layout.{leaves};
-ghost use Rattle.oc_cells.specs.Memory.{blank, blanks};
-ghost use Rattle.block_memory.specs.Content.{Counts, FindsLeaf};
+ghost use Rattle.block_memory.specs.Content.{Counts, FindsLeaf, IsBlank, Adds};
 
 use crate::hidden::HiddenCell;
 use oc_cells::{Address, CType, Cell, CellValue, Leaf, Row};
@@ -55,7 +54,7 @@ pub fn leaf_at<'a>(table: &'a Table<'_>, ty: &'a CType, number: u32) -> Option<&
 
 /// What a new cell of this leaf holds.
 pub fn blank_value<C: HiddenCell>(leaf: &CType) -> CellValue<C>
-    ensures { result ≡ blank C.zero_of leaf.now }
+    ensures { IsBlank C.is_zero_of leaf.now result }
 {
     match leaf {
         CType::Int { kind, obliv: true } => CellValue::Hidden(C::zero(*kind)),
@@ -70,7 +69,7 @@ pub fn push_blanks<'t, C: HiddenCell + Drop>(
     ty: &'t CType,
     out: &mut Row<Cell<'t, C>>,
 ) -> Result<(), AllocError>
-    ensures { OnOk result (out.new ≡ out.old ++ blanks C.zero_of (leaves table.now ty.now)) }
+    ensures { OnOk result (Adds C.is_zero_of (leaves table.now ty.now) out.old out.new) }
 {
     match ty {
         CType::Int { .. } | CType::Pointer { .. } => push_blank(ty, out),
@@ -93,20 +92,21 @@ fn push_blank<'t, C: HiddenCell + Drop>(
     leaf: &'t CType,
     out: &mut Row<Cell<'t, C>>,
 ) -> Result<(), AllocError>
-    ensures { OnOk result (out.new ≡ out.old ++ blanks C.zero_of (leaf.now ∷ [])) }
+    ensures { OnOk result (Adds C.is_zero_of (leaf.now ∷ []) out.old out.new) }
 {
     let value = blank_value(leaf);
     out.push(Cell {
         leaf: Leaf::new(leaf),
         value,
-    })
+    })?;
+    Ok(())
 }
 
 fn push_known<'t, C: HiddenCell + Drop>(
     known: &Row<Leaf<'t>>,
     out: &mut Row<Cell<'t, C>>,
 ) -> Result<(), AllocError>
-    ensures { OnOk result (out.new ≡ out.old ++ blanks C.zero_of known.now) }
+    ensures { OnOk result (Adds C.is_zero_of known.now out.old out.new) }
 {
     for leaf in known.as_slice() {
         push_blank(leaf.get(), out)?;

@@ -1,7 +1,7 @@
 use super::*;
 use oc_cells::FieldType;
-use oc_values::{Boxed, IntKind, Items, Name, NoMemory};
-use std::alloc::{AllocError, Global};
+use oc_values::{IntKind, Items, Name, NoMemory, Shared};
+use std::alloc::Global;
 use std::process::Abort;
 use std::test::Fail;
 
@@ -15,82 +15,63 @@ const HIDDEN: CType = CType::Int {
     obliv: true,
 };
 
-const BYTE: CType = CType::Int {
-    kind: IntKind::I8,
-    obliv: true,
-};
-
-fn pointer(alloc: Global, frozen: bool, to: CType) -> Result<CType, AllocError> {
+fn pointer(alloc: Global, frozen: bool) -> Result<CType, NoMemory> {
     Ok(CType::Pointer {
         frozen,
-        to: Boxed::new(alloc, to)?,
+        to: Shared::new(alloc, INT)?,
     })
 }
 
-fn array(alloc: Global, len: u32, of: CType) -> Result<CType, AllocError> {
+fn array(alloc: Global, len: u32, of: CType) -> Result<CType, NoMemory> {
     Ok(CType::Array {
         len,
-        of: Boxed::new(alloc, of)?,
+        of: Shared::new(alloc, of)?,
     })
 }
 
-/// `struct pair { int number; int *left, *right; }`, of three cells.
+/// `struct pair { obliv int number; int *leads; }`, of two cells.
 fn structs_of_pair(alloc: Global) -> Result<Items<StructType>, Fail> {
     let mut fields = Items::new(alloc);
-    fields.push(field(alloc, b"number", INT, 0)?)?;
-    fields.push(field(alloc, b"left", pointer(alloc, false, INT)?, 1)?)?;
-    fields.push(field(alloc, b"right", pointer(alloc, false, INT)?, 2)?)?;
+    fields.push(FieldType {
+        name: Name::from_bytes(alloc, b"number")?,
+        ty: HIDDEN,
+        offset: 0,
+    })?;
+    fields.push(FieldType {
+        name: Name::from_bytes(alloc, b"leads")?,
+        ty: pointer(alloc, false)?,
+        offset: 1,
+    })?;
     let mut structs = Items::new(alloc);
     structs.push(StructType {
         name: Name::from_bytes(alloc, b"pair")?,
         fields,
-        cells: 3,
+        cells: 2,
     })?;
     Ok(structs)
-}
-
-fn field(alloc: Global, name: &[u8], ty: CType, offset: u32) -> Result<FieldType, NoMemory> {
-    Ok(FieldType {
-        name: Name::from_bytes(alloc, name)?,
-        ty,
-        offset,
-    })
 }
 
 const fn at(block: u64, offset: u32) -> Address {
     Address::At { block, offset }
 }
 
-/// A block to be made: its type, the copies of it, whether it is allocated, and the answer.
-type Making<'t> = (&'t CType, i128, bool, Result<u64, MakeRefusal>);
-
-fn check_makes<'t, R: Abort>(rt: &R, blocks: &mut Blocks<'t, i128>, rows: &[Making<'t>]) {
-    for (ty, count, allocated, want) in rows {
-        assert!(rt; blocks.has_size(ty), "{ty:?}");
-        let got = blocks.make_block(ty, *count, *allocated);
-        assert_eq!(rt; got, *want, "{ty:?} {count} {allocated}");
-    }
+/// A block of so many copies of a type, and the answer.
+fn check_make<'t, R: Abort>(
+    rt: &R,
+    blocks: &mut Blocks<'t, i128>,
+    (ty, count): (&'t CType, i128),
+    want: Result<u64, MakeRefusal>,
+) {
+    assert!(rt; blocks.has_size(ty));
+    assert!(rt; blocks.make_block(ty, count, true) == want);
 }
 
-/// The address, the leaf that is asked for, and the trap of a load if there is one.
+/// An address, the leaf that is asked for, and the trap of a load if there is one.
 type Reading<'t> = (Address, &'t CType, Option<TrapKind>);
 
 fn check_loads<R: Abort>(rt: &R, blocks: &Blocks<'_, i128>, rows: &[Reading<'_>]) {
     for (place, leaf, want) in rows {
-        let got = blocks.load(*place, leaf).err();
-        assert_eq!(rt; got, *want, "{place:?} {leaf:?}");
-    }
-}
-
-/// A pointer's leaf, the address that is written with it, and the answer.
-type Writing<'t> = (&'t CType, Address, Result<(), TrapKind>);
-
-fn check_pointer_stores<R: Abort>(rt: &R, blocks: &mut Blocks<'_, i128>, rows: &[Writing<'_>]) {
-    for (leaf, place, want) in rows {
-        if let CType::Pointer { .. } = leaf {
-            let got = blocks.store(*place, leaf, CellValue::Pointer(at(2, 4)));
-            assert_eq!(rt; got, *want, "{place:?} {leaf:?}");
-        }
+        assert!(rt; blocks.load(*place, leaf).err() == *want);
     }
 }
 
@@ -99,54 +80,20 @@ type Step = (Address, i128, u32, Result<Address, TrapKind>);
 
 fn check_offsets<R: Abort>(rt: &R, blocks: &Blocks<'_, i128>, rows: &[Step]) {
     for (place, amount, size, want) in rows {
-        let got = blocks.offset(*place, *amount, *size);
-        assert_eq!(rt; got, *want, "{place:?} {amount} {size}");
+        assert!(rt; blocks.offset(*place, *amount, *size) == *want);
     }
 }
 
-fn check_frees<R: Abort>(
-    rt: &R,
-    blocks: &mut Blocks<'_, i128>,
-    rows: &[(Address, Result<(), TrapKind>)],
-) {
-    for (place, want) in rows {
-        let got = blocks.free_block(*place);
-        assert_eq!(rt; got, *want, "{place:?}");
-    }
-}
-
-fn check_sizes<R: Abort>(rt: &R, blocks: &Blocks<'_, i128>, rows: &[(&CType, bool)]) {
-    for (ty, want) in rows {
-        assert_eq!(rt; blocks.has_size(ty), *want, "{ty:?}");
-    }
-}
-
-/// Where it is copied to and from, the trap, and what the first block then holds, filled with 1 to 5 each time.
-type Copying = (Address, Address, Result<(), TrapKind>, [i128; 5]);
-
+/// Writes 1 to 5 into the first cells.
 fn fill<R: Abort>(rt: &R, blocks: &mut Blocks<'_, i128>) {
     let hidden = HIDDEN;
     for place in 0..5u32 {
         let value = CellValue::Hidden(i128::from(place) + 1);
-        let filled = blocks.store(at(0, place), &hidden, value);
-        assert_eq!(rt; filled, Ok(()));
+        assert!(rt; blocks.store(at(0, place), &hidden, value) == Ok(()));
     }
 }
 
-fn check_copies<R: Abort>(rt: &R, blocks: &mut Blocks<'_, i128>, ty: &CType, rows: &[Copying]) {
-    for (to, from, want, after) in rows {
-        fill(rt, blocks);
-        assert!(rt; blocks.has_size(ty));
-        let got = blocks.copy_cells(*to, *from, ty);
-        assert_eq!(rt; got, *want, "{to:?} {from:?}");
-        for (place, cell) in after.iter().enumerate() {
-            let found = hidden_at(blocks, at(0, place as u32));
-            assert_eq!(rt; found, Ok(*cell), "{to:?} {from:?} {place}");
-        }
-    }
-}
-
-/// The hidden integer at an address, or the trap of reading it as one of I32.
+/// The hidden integer of a cell, or the trap of reading it as one of I32.
 fn hidden_at(blocks: &Blocks<'_, i128>, at: Address) -> Result<i128, TrapKind> {
     match blocks.load(at, &HIDDEN)? {
         CellValue::Hidden(n) => Ok(n),
@@ -154,215 +101,125 @@ fn hidden_at(blocks: &Blocks<'_, i128>, at: Address) -> Result<i128, TrapKind> {
     }
 }
 
+/// A block of two pairs, one of a frozen pointer, and an integer's that is freed. A frozen leaf reads a cell that
+/// isn't frozen, but doesn't write it.
 #[test]
-fn cells_of_integers(rt: HostRuntime) -> Result<(), Fail> {
+fn cells_and_traps(rt: HostRuntime) -> Result<(), Fail> {
     let alloc = rt.alloc();
-    let (int, hidden, byte) = (INT, HIDDEN, BYTE);
+    let (int, hidden) = (INT, HIDDEN);
     let structs = structs_of_pair(alloc)?;
     let pairs = array(alloc, 2, CType::Struct(0))?;
-    let rows = array(alloc, 2, array(alloc, 3, BYTE)?)?;
+    let (plain, frozen) = (pointer(alloc, false)?, pointer(alloc, true)?);
     let mut blocks = Blocks::new(alloc, &structs, 65536)?;
-    let makings = [
-        (&int, 1, false, Ok(0)),
-        (&pairs, 1, true, Ok(1)),
-        (&rows, 1, false, Ok(2)),
-        (&int, 1, true, Ok(3)),
-    ];
-    check_makes(&rt, &mut blocks, &makings);
-    check_frees(&rt, &mut blocks, &[(at(3, 0), Ok(()))]);
+    check_make(&rt, &mut blocks, (&pairs, 1), Ok(0));
+    check_make(&rt, &mut blocks, (&frozen, 1), Ok(1));
+    check_make(&rt, &mut blocks, (&int, 1), Ok(2));
+    assert!(rt; blocks.free_block(at(2, 1)) == Err(TrapKind::M1));
+    assert!(rt; blocks.free_block(at(2, 0)) == Ok(()));
+    assert!(rt; blocks.free_block(at(2, 0)) == Err(TrapKind::M2));
     let loads = [
         (Address::Null, &int, Some(TrapKind::M3)),
-        (at(4, 0), &int, Some(TrapKind::M2)),
         (at(3, 0), &int, Some(TrapKind::M2)),
-        (at(3, 9), &byte, Some(TrapKind::M2)),
-        (at(0, 0), &int, None),
-        (at(0, 1), &int, Some(TrapKind::M1)),
-        (at(0, 1), &byte, Some(TrapKind::M1)),
-        (at(0, 0), &hidden, Some(TrapKind::M5)),
-        (at(1, 0), &int, None),
-        (at(1, 3), &int, None),
-        (at(2, 5), &byte, None),
-        (at(2, 5), &hidden, Some(TrapKind::M5)),
-        (at(2, 6), &byte, Some(TrapKind::M1)),
-        (at(2, u32::MAX), &byte, Some(TrapKind::M1)),
+        (at(2, 0), &int, Some(TrapKind::M2)),
+        (at(0, 2), &hidden, None),
+        (at(0, 2), &int, Some(TrapKind::M5)),
+        (at(0, 4), &hidden, Some(TrapKind::M1)),
+        (at(0, 3), &plain, None),
+        (at(0, 3), &frozen, None),
+        (at(1, 0), &plain, Some(TrapKind::M5)),
     ];
     check_loads(&rt, &blocks, &loads);
-    Ok(())
-}
-
-/// Blocks of two pairs, of a pointer to a pointer, and of a frozen pointer. A frozen leaf reads a cell that isn't
-/// frozen, but doesn't write it.
-#[test]
-fn cells_of_pointers(rt: HostRuntime) -> Result<(), Fail> {
-    let alloc = rt.alloc();
-    let structs = structs_of_pair(alloc)?;
-    let pairs = array(alloc, 2, CType::Struct(0))?;
-    let plain = pointer(alloc, false, INT)?;
-    let frozen = pointer(alloc, true, INT)?;
-    let deep = pointer(alloc, false, pointer(alloc, false, INT)?)?;
-    let frozen_deep = pointer(alloc, true, pointer(alloc, true, INT)?)?;
-    let mut blocks = Blocks::new(alloc, &structs, 65536)?;
-    let makings = [
-        (&pairs, 1, true, Ok(0)),
-        (&deep, 1, false, Ok(1)),
-        (&frozen, 1, false, Ok(2)),
-    ];
-    check_makes(&rt, &mut blocks, &makings);
-    let loads = [
-        (at(0, 1), &plain, None),
-        (at(0, 2), &frozen, None),
-        (at(0, 3), &plain, Some(TrapKind::M5)),
-        (at(0, 5), &plain, None),
-        (at(0, 6), &plain, Some(TrapKind::M1)),
-        (at(1, 0), &deep, None),
-        (at(1, 0), &frozen_deep, None),
-        (at(1, 0), &frozen, Some(TrapKind::M5)),
-        (at(2, 0), &frozen, None),
-        (at(2, 0), &plain, Some(TrapKind::M5)),
-    ];
-    check_loads(&rt, &blocks, &loads);
-    let stores = [
-        (&plain, at(0, 1), Ok(())),
-        (&frozen, at(0, 1), Err(TrapKind::M5)),
-        (&frozen_deep, at(1, 0), Err(TrapKind::M5)),
-        (&frozen, at(2, 0), Ok(())),
-        (&plain, at(0, 0), Err(TrapKind::M5)),
-        (&plain, at(0, 6), Err(TrapKind::M1)),
-        (&plain, at(3, 0), Err(TrapKind::M2)),
-        (&plain, Address::Null, Err(TrapKind::M3)),
-    ];
-    check_pointer_stores(&rt, &mut blocks, &stores);
-    match blocks.load(at(0, 1), &frozen) {
-        Ok(CellValue::Pointer(to)) => assert_eq!(rt; to, at(2, 4)),
-        _ => panic!(rt; "no pointer"),
+    if let CType::Pointer { .. } = &frozen {
+        let to = CellValue::Pointer(at(0, 0));
+        assert!(rt; blocks.store(at(0, 3), &frozen, to) == Err(TrapKind::M5));
     }
     Ok(())
 }
 
 #[test]
-fn offsets_and_frees(rt: HostRuntime) -> Result<(), Fail> {
+fn steps_sizes_and_limits(rt: HostRuntime) -> Result<(), Fail> {
     let alloc = rt.alloc();
+    let hidden = HIDDEN;
     let structs = Items::new(alloc);
-    let row = array(alloc, 6, INT)?;
-    let mut blocks = Blocks::new(alloc, &structs, 65536)?;
-    let makings = [
-        (&row, 1, true, Ok(0)),
-        (&row, 1, false, Ok(1)),
-        (&row, 1, false, Ok(2)),
-    ];
-    check_makes(&rt, &mut blocks, &makings);
-    assert!(rt; blocks.is_live(2));
-    blocks.end_block(2);
+    let row = array(alloc, 6, HIDDEN)?;
+    let too_wide = array(alloc, 257, array(alloc, 256, HIDDEN)?)?;
+    let mut blocks = Blocks::new(alloc, &structs, 7)?;
+    assert!(rt; blocks.size_of(&row) == 6);
+    assert!(rt; blocks.size_of(&too_wide) == 0);
+    let refused = Err(MakeRefusal::Trap(TrapKind::M4));
+    // A block without cells counts as one.
+    check_make(&rt, &mut blocks, (&hidden, 6), Ok(0));
+    check_make(&rt, &mut blocks, (&hidden, 0), Ok(1));
+    check_make(&rt, &mut blocks, (&hidden, -1), refused);
+    check_make(&rt, &mut blocks, (&hidden, 1), refused);
     let steps = [
-        (Address::Null, 0, 1, Err(TrapKind::M3)),
-        (at(2, 0), 0, 1, Err(TrapKind::M2)),
-        (at(9, 0), 0, 1, Err(TrapKind::M2)),
-        (at(0, 0), 6, 1, Ok(at(0, 6))),
-        (at(0, 0), 7, 1, Err(TrapKind::M1)),
         (at(0, 0), 3, 2, Ok(at(0, 6))),
         (at(0, 1), 3, 2, Err(TrapKind::M1)),
         (at(0, 6), -3, 2, Ok(at(0, 0))),
-        (at(0, 5), -3, 2, Err(TrapKind::M1)),
         (at(0, 0), -1, 1, Err(TrapKind::M1)),
-        (at(0, 0), 9223372036854775807, 65536, Err(TrapKind::M1)),
-        (at(0, 0), -9223372036854775808, 65536, Err(TrapKind::M1)),
         (at(0, 0), i128::MAX, 65536, Err(TrapKind::M1)),
-        (at(0, 0), i128::MIN, 65536, Err(TrapKind::M1)),
+        (Address::Null, 0, 1, Err(TrapKind::M3)),
     ];
     check_offsets(&rt, &blocks, &steps);
-    let frees = [
-        (Address::Null, Ok(())),
-        (at(1, 0), Err(TrapKind::M1)),
-        (at(0, 1), Err(TrapKind::M1)),
-        (at(2, 0), Err(TrapKind::M2)),
-        (at(9, 0), Err(TrapKind::M2)),
-        (at(0, 0), Ok(())),
-        (at(0, 0), Err(TrapKind::M2)),
-        (at(0, 1), Err(TrapKind::M2)),
-    ];
-    check_frees(&rt, &mut blocks, &frees);
+    assert!(rt; blocks.is_live(0));
+    blocks.end_block(0);
+    assert!(rt; blocks.offset(at(0, 0), 0, 1) == Err(TrapKind::M2));
     Ok(())
 }
 
-#[test]
-fn limits(rt: HostRuntime) -> Result<(), Fail> {
-    let alloc = rt.alloc();
-    let hidden = HIDDEN;
-    let structs = Items::new(alloc);
-    let row = array(alloc, 3, HIDDEN)?;
-    let refused = Err(MakeRefusal::Trap(TrapKind::M4));
-    let mut blocks = Blocks::new(alloc, &structs, 7)?;
-    let makings = [
-        (&row, -1, true, refused),
-        (&row, 3, true, refused),
-        (&row, i128::MAX, true, refused),
-        (&row, 4294967296, true, refused),
-        (&row, 2, true, Ok(0)),
-        // A block without cells counts as one.
-        (&hidden, 0, true, Ok(1)),
-        (&hidden, 0, true, refused),
-        (&hidden, 1, false, refused),
-    ];
-    check_makes(&rt, &mut blocks, &makings);
-    check_loads(&rt, &blocks, &[(at(1, 0), &hidden, Some(TrapKind::M1))]);
-    check_frees(&rt, &mut blocks, &[(at(1, 0), Ok(()))]);
-    check_makes(&rt, &mut blocks, &[(&hidden, 1, false, Ok(2))]);
-    assert_eq!(rt; hidden_at(&blocks, at(2, 0)), Ok(0));
-    Ok(())
-}
-
-#[test]
-fn sizes(rt: HostRuntime) -> Result<(), Fail> {
-    let alloc = rt.alloc();
-    let hidden = HIDDEN;
-    let structs = Items::new(alloc);
-    let wide = array(alloc, 65536, HIDDEN)?;
-    let too_wide = array(alloc, 257, array(alloc, 256, HIDDEN)?)?;
-    let widest = array(alloc, u32::MAX, array(alloc, u32::MAX, HIDDEN)?)?;
-    let none = array(alloc, 0, HIDDEN)?;
-    let mut blocks = Blocks::new(alloc, &structs, 65536)?;
-    let rows = [
-        (&wide, true),
-        (&too_wide, false),
-        (&widest, false),
-        (&none, false),
-    ];
-    check_sizes(&rt, &blocks, &rows);
-    let refused = Err(MakeRefusal::Trap(TrapKind::M4));
-    let makings = [(&wide, 1, false, Ok(0)), (&hidden, 1, false, refused)];
-    check_makes(&rt, &mut blocks, &makings);
-    assert_eq!(rt; hidden_at(&blocks, at(0, 65535)), Ok(0));
-    Ok(())
-}
-
+/// Three cells of a row are copied to the cell after; each is read just before it is written.
 #[test]
 fn copies(rt: HostRuntime) -> Result<(), Fail> {
     let alloc = rt.alloc();
     let structs = Items::new(alloc);
-    let three = array(alloc, 3, HIDDEN)?;
-    let five = array(alloc, 5, HIDDEN)?;
-    let mixed = array(alloc, 2, INT)?;
+    let (three, five) = (array(alloc, 3, HIDDEN)?, array(alloc, 5, HIDDEN)?);
     let mut blocks = Blocks::new(alloc, &structs, 65536)?;
-    let makings = [
-        (&five, 1, false, Ok(0)),
-        (&mixed, 1, false, Ok(1)),
-        (&three, 1, true, Ok(2)),
-    ];
-    check_makes(&rt, &mut blocks, &makings);
-    let kept = [1, 2, 3, 4, 5];
-    let rows = [
-        (at(0, 0), at(0, 0), Ok(()), kept),
-        // Each cell is read just before it is written, so cells that were written are read again.
-        (at(0, 1), at(0, 0), Ok(()), [1, 1, 1, 1, 5]),
-        (at(0, 0), at(0, 2), Ok(()), [3, 4, 5, 4, 5]),
-        (at(0, 3), at(0, 0), Err(TrapKind::M1), kept),
-        (at(0, 0), at(0, 3), Err(TrapKind::M1), kept),
-        (at(1, 0), at(0, 0), Err(TrapKind::M5), kept),
-        (at(1, 0), at(0, 3), Err(TrapKind::M1), kept),
-        (Address::Null, at(0, 0), Err(TrapKind::M3), kept),
-        (at(0, 0), at(7, 0), Err(TrapKind::M2), kept),
-        (at(0, 0), at(2, 0), Ok(()), [0, 0, 0, 4, 5]),
-    ];
-    check_copies(&rt, &mut blocks, &three, &rows);
+    check_make(&rt, &mut blocks, (&five, 1), Ok(0));
+    fill(&rt, &mut blocks);
+    assert!(rt; blocks.has_size(&three));
+    assert!(rt; matches!(blocks.leaf(&three, 2), Some(CType::Int { obliv: true, .. })));
+    assert!(rt; blocks.leaf(&three, 3).is_none());
+    assert!(rt; blocks.check_copy(at(0, 3), at(7, 0), &three) == Err(TrapKind::M2));
+    assert!(rt; blocks.check_copy(at(0, 3), at(0, 0), &three) == Err(TrapKind::M1));
+    assert!(rt; blocks.copy_cells(at(0, 1), at(0, 0), &three) == Ok(()));
+    assert!(rt; hidden_at(&blocks, at(0, 3)) == Ok(1));
+    assert!(rt; hidden_at(&blocks, at(0, 4)) == Ok(5));
+    assert!(rt; matches!(blocks.cell(at(0, 1), 3)?.value, CellValue::Hidden(5)));
+    Ok(())
+}
+
+/// A wire of any kind as a hidden value, of which each default is a zero.
+#[derive(Drop)]
+struct Carried<W> {
+    wire: W,
+}
+
+impl<W: Copy + Default> HiddenCell for Carried<W> {
+    ghost is_zero_of = { λ kind value. W.is_default value.wire };
+
+    fn zero(_kind: IntKind) -> Carried<W> {
+        Carried { wire: W::default() }
+    }
+
+    fn copy(&self) -> Carried<W> {
+        Carried { wire: self.wire }
+    }
+}
+
+/// A pick under an enable is one load, one pick and one put.
+#[test]
+fn puts(rt: HostRuntime) -> Result<(), Fail> {
+    let alloc = rt.alloc();
+    let (hidden, structs) = (HIDDEN, Items::new(alloc));
+    let mut blocks = Blocks::new(alloc, &structs, 1)?;
+    assert!(rt; blocks.has_size(&hidden));
+    assert!(rt; blocks.make_block(&hidden, 1, false) == Ok(0));
+    if blocks.load(at(0, 0), &hidden).is_ok() {
+        blocks.put(at(0, 0), CellValue::Hidden(Carried { wire: true }));
+    }
+    match blocks.load(at(0, 0), &hidden) {
+        Ok(CellValue::Hidden(found)) => assert!(rt; found.wire),
+        _ => panic!(rt; "no hidden value"),
+    }
     Ok(())
 }

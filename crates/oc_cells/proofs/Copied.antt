@@ -130,16 +130,13 @@ module _ {H K : Type 0} {R : IntKind → H → K → Type 0} where
   pub copyable_same : {m : List (Block H)} {n : List (Block K)} → SameMemory R m n → (to from : Address) (ls : List CType) → SameAnswer (λ _ _. Unit {0}) (copyable m to from ls) (copyable n to from ls)
   copyable_same s to from ls = then_same (loadable_same s from ls) (λ _ _ _. all_storable_same s to ls)
 
-  checked : {m : List (Block H)} {n : List (Block K)} (ls : List CType) → SameMemory R m n → (to from : Address) (x y z w : Result (Unit {0}) TrapKind) → loadable m from ls ≡ x → all_storable m to ls ≡ z → SameAnswer (λ _ _. Unit {0}) x y → SameAnswer (λ _ _. Unit {0}) z w
-      → SameAnswer (SameMemory R) (then x (λ _. then z (λ _. Ok (copied (length ls) m to from)))) (then y (λ _. then w (λ _. Ok (copied (length ls) n to from))))
-  checked ls s to from (Ok u) (Ok v) (Ok a) (Ok b) e f (answers p) (answers q) = answers (copied_same ls s to from e f)
-  checked ls s to from (Ok u) (Ok v) (Err t) (Err o) e f (answers p) traps = traps
-  checked ls s to from (Ok u) (Ok v) (Ok a) (Err o) e f p q = elim q [ ]
-  checked ls s to from (Ok u) (Ok v) (Err t) (Ok b) e f p q = elim q [ ]
-  checked ls s to from (Err t) (Err o) z w e f traps q = traps
-  checked ls s to from (Ok u) (Err o) z w e f p q = elim p [ ]
-  checked ls s to from (Err t) (Ok v) z w e f p q = elim p [ ]
+  checked : {m : List (Block H)} {n : List (Block K)} (ls : List CType) → SameMemory R m n → (to from : Address) (x y : Result (Unit {0}) TrapKind) → copyable m to from ls ≡ x → SameAnswer (λ _ _. Unit {0}) x y
+      → SameAnswer (SameMemory R) (then x (λ _. Ok (copied (length ls) m to from))) (then y (λ _. Ok (copied (length ls) n to from)))
+  checked {m} ls s to from (Ok u) (Ok v) e (answers p) = let g = then_ok (loadable m from ls) (all_storable m to ls) e in answers (copied_same ls s to from g.0 g.1)
+  checked ls s to from (Err t) (Err o) e traps = traps
+  checked ls s to from (Ok u) (Err o) e p = elim p [ ]
+  checked ls s to from (Err t) (Ok v) e p = elim p [ ]
 
   -- a copy answers alike, and leaves the memories alike
   pub copy_same : {m : List (Block H)} {n : List (Block K)} → SameMemory R m n → (to from : Address) (ls : List CType) → SameAnswer (SameMemory R) (copy m to from ls) (copy n to from ls)
-  copy_same {m} {n} s to from ls = checked ls s to from (loadable m from ls) (loadable n from ls) (all_storable m to ls) (all_storable n to ls) refl refl (loadable_same s from ls) (all_storable_same s to ls)
+  copy_same {m} {n} s to from ls = checked ls s to from (copyable m to from ls) (copyable n to from ls) refl (copyable_same s to from ls)

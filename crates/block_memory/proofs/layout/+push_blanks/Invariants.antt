@@ -1,7 +1,6 @@
-use Rattle.std.proofs.Common.{◌≡◌, ◌++◌}
 use Rattle.oc_cells.specs.Layout.{leaves, repeated}
-use Rattle.oc_cells.specs.Memory.{blanks}
+use Rattle.block_memory.specs.Content.{Adds}
 use Rattle.block_memory.proofs.layout.+push_blanks.Given as goal
 
 abbrev pub invariant-loop : goal.invariant-loop
-invariant-loop g l = l.out ≡ l.initial.out ++ blanks g.C.HiddenCell.zero_of (repeated l.counter (leaves l.table l.of))
+invariant-loop g l = Adds g.C.HiddenCell.is_zero_of (repeated l.counter (leaves l.table l.of)) l.initial.out l.out

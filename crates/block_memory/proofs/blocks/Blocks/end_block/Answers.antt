@@ -2,7 +2,7 @@ use Rattle.std.proofs.Common.{◌≡◌, ◌+◌, ◌-◌, ◌≤◌, ℕ, ◌�
 use Rattle.oc_cells.specs.declared.memory.Block.TheVariants.{Gone}
 use Rattle.oc_cells.specs.Memory.{living, AllHaveForm}
 use Rattle.block_memory.proofs.Living.{living_ended, set_gone}
-use Rattle.block_memory.proofs.Formed.{form_ended}
+use Rattle.oc_cells.proofs.Formed.{form_ended}
 use Rattle.block_memory.proofs.blocks.Blocks.end_block.Goals as goal
 
 enough : (live w l r : ℕ) → r + w ≡ l → live ≡ l → w ≤ live

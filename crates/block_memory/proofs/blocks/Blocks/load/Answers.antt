@@ -2,7 +2,7 @@ use Rattle.std.proofs.Common.{◌∙◌, ap, sym, subst}
 use Rattle.std.specs.Prelude.{IfOk}
 use Rattle.oc_cells.specs.Memory.{HasForm, AllHaveForm}
 use Rattle.block_memory.proofs.Accesses.{loaded, misfit}
-use Rattle.block_memory.proofs.Formed.{form_loaded}
+use Rattle.oc_cells.proofs.Formed.{form_loaded}
 use Rattle.block_memory.proofs.blocks.Blocks.load.Goals as goal
 
 pub returns-then-not-fits_type : goal.returns-then-not-fits_type
