@@ -8,7 +8,7 @@ use Rattle.std.proofs.lemmas.List.{take_more, take-append-drop, take_all}
 use Rattle.std.proofs.lemmas.List.Concat.{flat_map-append}
 use Rattle.hex.specs.Hex.{encode_lower}
 use Rattle.hex.proofs.HexLemmas.{decode_sized-encode_lower}
-use Rattle.dealt_transfer.specs.Halves.{most}
+use Rattle.dealt_transfer.specs.Halves.{most_transfers}
 use Rattle.oblivc_main.specs.Words.{Begins, UsageOf}
 use Rattle.oblivc_main.specs.DealWords.{DealAsked, IsCount, IsDeal, IsDealCommand, IsKey, IsOrder, Says, Wanted, all_wanted, deal_words, name_of, none_wanted, option_words, wants, without}
 use Rattle.oblivc_main.specs.DealGiven.{Agrees, Takes, deal_of, wanted_of}
@@ -382,19 +382,19 @@ answered words at g (Some d) n e r le h = is_deal words at g (deal_of d) r le h.
 answered words at g None n e r le h = subst (UsageOf IsDealCommand words) (sym e) (usage_wanted words at g r le h)
 
 -- a number of transfers was asked for, and it is no more than there may be
-option_counts : (d : DealAsked) (w : Wanted) (p : DealOption) (x : List ℕ) (os : List Entry) → ((v : Wanted) → v.count ≡ true → IsOrder v os → d.count ≤ most) → w.count ≡ true → IsOrder (without w p) os → Says p x d → d.count ≤ most
+option_counts : (d : DealAsked) (w : Wanted) (p : DealOption) (x : List ℕ) (os : List Entry) → ((v : Wanted) → v.count ≡ true → IsOrder v os → d.count ≤ most_transfers) → w.count ≡ true → IsOrder (without w p) os → Says p x d → d.count ≤ most_transfers
 option_counts d w Key x os rest h i s = rest (without w Key) h i
 option_counts d w Count x os rest h i s = s.range
 option_counts d w First x os rest h i s = rest (without w First) h i
 option_counts d w Second x os rest h i s = rest (without w Second) h i
 
-counted : (d : DealAsked) (w : Wanted) (os : List Entry) → w.count ≡ true → IsOrder w os → AllSaid d os → d.count ≤ most
+counted : (d : DealAsked) (w : Wanted) (os : List Entry) → w.count ≡ true → IsOrder w os → AllSaid d os → d.count ≤ most_transfers
 counted d w [] h i s = absurd (false≢true (sym (ap (λ v. v.count) i) ∙ h))
 counted d w (o ∷ os) h i s = option_counts d w o.0 o.1 os (λ v k j. counted d v os k j s.1) h i.1 s.0
 
-pub few_dealt : (words : List (List ℕ)) (d : DealAsked) → IsDeal words d → d.count ≤ most
+pub few_dealt : (words : List (List ℕ)) (d : DealAsked) → IsDeal words d → d.count ≤ most_transfers
 few_dealt words d c = counted d all_wanted c.options refl c.once c.said
 
-pub few_answered : (words : List (List ℕ)) (r : Result DealWords ℕ) → MatchResult r (λ d. IsDeal words (deal_of d)) (λ k. UsageOf IsDealCommand words k) → IfOk r (λ d. d.count ≤ most)
+pub few_answered : (words : List (List ℕ)) (r : Result DealWords ℕ) → MatchResult r (λ d. IsDeal words (deal_of d)) (λ k. UsageOf IsDealCommand words k) → IfOk r (λ d. d.count ≤ most_transfers)
 few_answered words (Ok d) h = few_dealt words (deal_of d) h
 few_answered words (Err k) h = tt

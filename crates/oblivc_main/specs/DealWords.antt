@@ -2,7 +2,7 @@
 use Rattle.std.specs.Prelude.{ℕ, ◌≡◌, ◌≤◌, List, [], ◌∷◌, length, codes, Bool, true, false, IsTrue, slice_index, Ok}
 use Rattle.std.specs.List.{AllByRecursion, flat_map, list_all}
 use Rattle.hex.specs.Hex.{decode_sized}
-use Rattle.dealt_transfer.specs.Halves.{most}
+use Rattle.dealt_transfer.specs.Halves.{most_transfers}
 use Rattle.oblivc_main.specs.Inputs.{is_digit, decimal_value}
 use Rattle.oblivc_main.specs.declared.deal_words.DealOption.{DealOption}
 use Rattle.oblivc_main.specs.declared.deal_words.DealOption.TheVariants.{Key, Count, First, Second}
@@ -32,7 +32,7 @@ pub record IsCount (word : List ℕ) (count : ℕ) : Type 0 where
   pub few : length word ≤ 7
   pub plain : slice_index word 0 ≡ 48 → length word ≡ 1
   pub value : count ≡ decimal_value word
-  pub range : count ≤ most
+  pub range : count ≤ most_transfers
 
 -- the option's value asks for this; any word is a name
 abbrev pub Says : DealOption → List ℕ → DealAsked → Type 0

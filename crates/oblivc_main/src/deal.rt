@@ -1,7 +1,7 @@
 //! The command `deal`.
 
 ghost use Rattle.std.specs.Prelude.{◌≡◌, ◌≢◌, ◌≤◌, ℕ, List, IfOk};
-ghost use Rattle.dealt_transfer.specs.Halves.{most};
+ghost use Rattle.dealt_transfer.specs.Halves.{most_transfers};
 ghost use Rattle.dealt_transfer.specs.Dealing.{sender_dealt, receiver_dealt};
 ghost use Rattle.dealt_transfer.specs.Files.{sender_file, receiver_file};
 ghost use Rattle.oblivc_main.specs.DealGiven.{deal_of};
@@ -9,7 +9,8 @@ ghost use Rattle.oblivc_main.specs.DealEndings.{DealEnds, IsFileOf, PutEnds};
 ghost use Rattle.oblivc_main.specs.Statuses.{DealAnswered, Said, deal_line_of, deal_status_of};
 
 use crate::deal_words::DealWords;
-use crate::saying::{NO_MEMORY, line_for_file, say, say_line};
+use crate::saying::{line_for_file, say_line, say_memory};
+use crate::statuses::{DONE, FILE};
 use dealt_transfer::{deal, write_receiver_half, write_sender_half};
 use oc_outside::{Sink, Vault, WriteAnswer};
 use oc_values::{Items, NoMemory};
@@ -36,7 +37,7 @@ fn dealt_files(
     key: &[u8; 32],
     count: u32,
 ) -> Result<(Items<u8>, Items<u8>), NoMemory>
-    requires { count ≤ most }
+    requires { count ≤ most_transfers }
     ensures first { IfOk result (λ files. files.0 ≡ sender_file (sender_dealt key.now count)) }
     ensures second { IfOk result (λ files. files.1 ≡ receiver_file (receiver_dealt key.now count)) }
 {
@@ -71,7 +72,7 @@ pub fn write_deal<V: Vault>(
     words: &DealWords<'_>,
     files: &mut V,
 ) -> Result<(), DealStop>
-    requires { words.now.count ≤ most }
+    requires { words.now.count ≤ most_transfers }
     ensures end { DealEnds (record {
       before = V.contents files.old;
       after = V.contents files.new;
@@ -99,17 +100,13 @@ pub fn report_deal<E: Sink>(alloc: Global, stop: DealStop, words: &DealWords<'_>
     }) (deal_line_of (deal_of words.now) stop) (deal_status_of stop) result }
 {
     match stop {
-        DealStop::Unwritten(DealFile::FirstFile) => say_line(
-            err,
-            line_for_file(alloc, words.first),
-            5,
-        ),
-        DealStop::Unwritten(DealFile::SecondFile) => say_line(
-            err,
-            line_for_file(alloc, words.second),
-            5,
-        ),
-        DealStop::NoMemory => say(err, "memory\n", NO_MEMORY),
+        DealStop::Unwritten(DealFile::FirstFile) => {
+            say_line(err, line_for_file(alloc, words.first), FILE)
+        }
+        DealStop::Unwritten(DealFile::SecondFile) => {
+            say_line(err, line_for_file(alloc, words.second), FILE)
+        }
+        DealStop::NoMemory => say_memory(err),
     }
 }
 
@@ -120,7 +117,7 @@ pub fn run_deal<V: Vault, E: Sink>(
     files: &mut V,
     err: &mut E,
 ) -> u8
-    requires { words.now.count ≤ most }
+    requires { words.now.count ≤ most_transfers }
     ensures answered { DealAnswered (record {
       before = V.contents files.old;
       after = V.contents files.new;
@@ -136,7 +133,7 @@ pub fn run_deal<V: Vault, E: Sink>(
     ensures elsewhere { (n : List ℕ) → (IsFileOf (deal_of words.now) n → ⊥) → V.contents files.new n ≡ V.contents files.old n }
 {
     match write_deal(alloc, words, files) {
-        Ok(()) => 0,
+        Ok(()) => DONE,
         Err(stop) => report_deal(alloc, stop, words, err),
     }
 }

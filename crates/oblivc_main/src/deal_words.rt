@@ -1,7 +1,7 @@
 //! The words of the command `deal`.
 
 ghost use Rattle.std.specs.Prelude.{◌≡◌, ◌≢◌, ◌↔◌, ℕ, [], ◌∷◌, IsTrue, true, codes, take, ◌≤◌, IfOk, MatchOption, MatchResult};
-ghost use Rattle.dealt_transfer.specs.Halves.{most};
+ghost use Rattle.dealt_transfer.specs.Halves.{most_transfers};
 ghost use Rattle.oblivc_main.specs.Words.{UsageOf, texts};
 ghost use Rattle.oblivc_main.specs.DealWords.{DealAsked, IsCount, IsDeal, IsDealCommand, Says, name_of, none_wanted, wants};
 ghost use Rattle.oblivc_main.specs.DealGiven.{Agrees, Takes, deal_of, wanted_of};
@@ -9,10 +9,8 @@ ghost use Rattle.oblivc_main.specs.declared.deal_words.DealOption.{DealOption as
 
 use crate::inputs::decimal;
 use crate::words::word;
+use dealt_transfer::MOST_TRANSFERS;
 use hex::FromHex;
-
-/// How many transfers are dealt at most.
-const MOST: u128 = 1_048_576;
 
 /// An option of `deal`.
 #[derive(Clone, Copy, Debug, PartialEq, Eq)]
@@ -76,7 +74,7 @@ fn count_of(word: &[u8]) -> Option<u32>
         return None;
     }
     match decimal(word) {
-        Some(count) if count <= MOST => Some(count as u32),
+        Some(count) if count <= u128::from(MOST_TRANSFERS) => Some(count as u32),
         _ => None,
     }
 }
@@ -133,7 +131,7 @@ pub fn is_deal(words: &[String]) -> bool
 /// more words are wanted.
 pub fn read_deal(words: &[String]) -> Result<DealWords<'_>, usize>
     requires { take 1 (texts words.now) ≡ codes "deal" ∷ [] }
-    ensures few { IfOk result (λ d. d.count ≤ most) }
+    ensures few { IfOk result (λ d. d.count ≤ most_transfers) }
     ensures words { MatchResult result (λ d. IsDeal (texts words.now) (deal_of d)) (λ k. UsageOf IsDealCommand (texts words.now) k) }
 {
     let mut given = Given {
