@@ -6,9 +6,9 @@ use Rattle.oc_tree.specs.declared.run.Flow.TheVariants.{Next}
 use Rattle.oc_cells.specs.declared.memory.Address.TheVariants.{At}
 use Rattle.oc_cells.specs.declared.types.SlotType.{SlotType}
 use Rattle.oc_tree.specs.declared.typed.TExpr.{TExpr}
-use Rattle.oc_tree.specs.declared.typed.Declared.{Declared}
-use Rattle.oc_tree.specs.declared.typed.Stmt.{Stmt}
-use Rattle.oc_tree.specs.declared.typed.StmtNode.TheVariants.{Express}
+use Rattle.oc_tree.specs.declared.typed.TDeclared.{TDeclared}
+use Rattle.oc_tree.specs.declared.typed.TStmt.{TStmt}
+use Rattle.oc_tree.specs.declared.typed.TStmtNode.TheVariants.{Express}
 use Rattle.oc_tree.specs.Walking.{Res, Go, bind, after, pure, still, step}
 use Rattle.oc_tree.specs.Values.{initializes}
 use Rattle.oc_tree.specs.Walk.{Around, deeper, whole, opens, typed_slot, started, declares, declares_all, node, stepped, proceed, listed}
@@ -32,7 +32,7 @@ module _ (s : ClearSetup) (slots : List SlotType) where
   as_fault : {A : Type 0} (q : Res ClearState A) (r : Result A Fault) (f : Fault) (t : ClearState) → Does q (Err f) t → r ≡ Err f → Does q r t
   as_fault q r f t d z = subst (λ x. Does q x t) (sym z) d
 
-  pub declared_stops : {d : Declared} {t : SlotType} {m m1 : Machine} {f : Fault} {r : Result (Unit {0}) Fault} → Some t ≡ slice_get slots d.slot → ((x y : List ℤ) → Does (opens (clear x y) d.spot t.ty d.slot (state m)) (Err f) (state m1)) → r ≡ Err f → RunsDeclared s slots d m r m1
+  pub declared_stops : {d : TDeclared} {t : SlotType} {m m1 : Machine} {f : Fault} {r : Result (Unit {0}) Fault} → Some t ≡ slice_get slots d.slot → ((x y : List ℤ) → Does (opens (clear x y) d.spot t.ty d.slot (state m)) (Err f) (state m1)) → r ≡ Err f → RunsDeclared s slots d m r m1
   declared_stops {d} {t} {m} {m1} {f} {r} h x z = record {
     runs = record {
       does = λ room.
@@ -41,7 +41,7 @@ module _ (s : ClearSetup) (slots : List SlotType) where
     };
   }
 
-  pub init_stops : {d : Declared} {t : SlotType} {e : TExpr} {b : ℕ} {m m1 m2 : Machine} {f : Fault} {r : Result (Unit {0}) Fault} → Some t ≡ slice_get slots d.slot → ((x y : List ℤ) → opens (clear x y) d.spot t.ty d.slot (state m) ≡ Go b (state m1)) → d.init ≡ Some e → RunsExpr s e m1 (Err f) m2 → r ≡ Err f → RunsDeclared s slots d m r m2
+  pub init_stops : {d : TDeclared} {t : SlotType} {e : TExpr} {b : ℕ} {m m1 m2 : Machine} {f : Fault} {r : Result (Unit {0}) Fault} → Some t ≡ slice_get slots d.slot → ((x y : List ℤ) → opens (clear x y) d.spot t.ty d.slot (state m) ≡ Go b (state m1)) → d.init ≡ Some e → RunsExpr s e m1 (Err f) m2 → r ≡ Err f → RunsDeclared s slots d m r m2
   init_stops {d} {t} {e} {b} {m} {m1} {m2} {f} {r} h x i y z = record {
     runs = record {
       does = λ room.
@@ -55,7 +55,7 @@ module _ (s : ClearSetup) (slots : List SlotType) where
   left_at : {A : Type 0} (xs : List A) (x : A) (i : ℕ) → i < length xs → x ≡ get_or xs i x → drop i xs ≡ x ∷ drop (i + 1) xs
   left_at xs x i lt is = drop-cons xs i x lt ∙ ap (λ y. y ∷ drop (suc i) xs) (sym is) ∙ ap (λ j. x ∷ drop j xs) (sym (add-one i))
 
-  pub declares_stop : {ds : List Declared} {d : Declared} {i : ℕ} {m m1 m2 : Machine} {f : Fault} {r : Result Flow Fault} → Declaring s slots ds m (drop i ds) m1 → i < length ds → d ≡ get_or ds i d → RunsDeclared s slots d m1 (Err f) m2 → r ≡ Err f → RunsDeclares s slots ds m r m2
+  pub declares_stop : {ds : List TDeclared} {d : TDeclared} {i : ℕ} {m m1 m2 : Machine} {f : Fault} {r : Result Flow Fault} → Declaring s slots ds m (drop i ds) m1 → i < length ds → d ≡ get_or ds i d → RunsDeclared s slots d m1 (Err f) m2 → r ≡ Err f → RunsDeclares s slots ds m r m2
   declares_stop {ds} {d} {i} {m} {m1} {m2} {f} {r} x lt is y z = record {
     runs = record {
       does = λ room.
@@ -64,7 +64,7 @@ module _ (s : ClearSetup) (slots : List SlotType) where
     };
   }
 
-  pub express_stops : {t : Stmt} {e : TExpr} {m m1 m2 : Machine} {f : Fault} {r : Result Flow Fault} → step (state m) ≡ Go tt (state m1) → t.node ≡ Express e → RunsExpr s e m1 (Err f) m2 → r ≡ Err f → RunsStmt s slots t m r m2
+  pub express_stops : {t : TStmt} {e : TExpr} {m m1 m2 : Machine} {f : Fault} {r : Result Flow Fault} → step (state m) ≡ Go tt (state m1) → t.node ≡ Express e → RunsExpr s e m1 (Err f) m2 → r ≡ Err f → RunsStmt s slots t m r m2
   express_stops {t} {e} {m} {m1} {m2} {f} {r} x h y z = record {
     runs = record {
       does = λ room.
@@ -74,7 +74,7 @@ module _ (s : ClearSetup) (slots : List SlotType) where
     };
   }
 
-  pub body_stops : {ts : List Stmt} {t : Stmt} {i : ℕ} {m m1 m2 : Machine} {f : Fault} {r : Result Flow Fault} → Passing s slots ts m (drop i ts) m1 → i < length ts → t ≡ get_or ts i t → RunsStmt s slots t m1 (Err f) m2 → r ≡ Err f → RunsBody s slots ts m r m2
+  pub body_stops : {ts : List TStmt} {t : TStmt} {i : ℕ} {m m1 m2 : Machine} {f : Fault} {r : Result Flow Fault} → Passing s slots ts m (drop i ts) m1 → i < length ts → t ≡ get_or ts i t → RunsStmt s slots t m1 (Err f) m2 → r ≡ Err f → RunsBody s slots ts m r m2
   body_stops {ts} {t} {i} {m} {m1} {m2} {f} {r} x lt is y z = record {
     runs = record {
       does = λ room.

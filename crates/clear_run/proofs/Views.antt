@@ -6,8 +6,8 @@ use Rattle.oc_cells.specs.declared.types.CType.{CType}
 use Rattle.oc_tree.specs.declared.typed.TExpr.{TExpr}
 use Rattle.oc_tree.specs.declared.typed.TPlace.{TPlace}
 use Rattle.oc_tree.specs.declared.typed.Builtin.{Builtin}
-use Rattle.oc_tree.specs.declared.typed.ExprNode.{Read, AddressOf, Binary, Builtin as Call, Row_of-TExpr}
-use Rattle.oc_tree.specs.declared.typed.ExprNode.TheBlock.{hidden-the_row-TExpr-0, hidden-the_row-TExpr-1, back-the_row-TExpr}
+use Rattle.oc_tree.specs.declared.typed.TExprNode.{Read, AddressOf, Binary, Builtin as Call, Row_of-TExpr}
+use Rattle.oc_tree.specs.declared.typed.TExprNode.TheBlock.{hidden-the_row-TExpr-0, hidden-the_row-TExpr-1, back-the_row-TExpr}
 use Rattle.oc_tree.specs.declared.typed.PlaceNode.{Deref}
 use denote.Hole.Carrier.{hidden}
 use mathlib.Core.Former.{this, list_count, children}

@@ -8,7 +8,7 @@ use Rattle.clear_run.proofs.Views.{read_at, address_at, builtin_at}
 use Rattle.oc_cells.specs.declared.memory.Address.{Address}
 use Rattle.oc_tree.specs.declared.typed.TExpr.{TExpr}
 use Rattle.oc_tree.specs.declared.typed.TPlace.{TPlace}
-use Rattle.oc_tree.specs.declared.typed.ExprNode.{ExprNode, Read, AddressOf, Builtin as Call}
+use Rattle.oc_tree.specs.declared.typed.TExprNode.{TExprNode, Read, AddressOf, Builtin as Call}
 use Rattle.oc_tree.specs.declared.typed.PlaceNode.{PlaceNode}
 use Rattle.oc_tree.specs.declared.typed.Builtin.{Builtin}
 use Rattle.oc_tree.specs.declared.run.Source.{Source}
@@ -75,7 +75,7 @@ module _ (s : ClearSetup) where
       chain (λ w. wholes (clear s.first s.second) (deeper (clear s.first s.second) w) es) k r1 (lower (λ w. wholes (clear s.first s.second) w es) (subst (λ es. Walks s (λ w. wholes (clear s.first s.second) w es) m r1 m1) q x.runs)) y
 
   -- an expression or a place of this form, whose walk is g
-  pub by_form : {e : TExpr} {n : ExprNode} {m m1 : Machine} {r : Result (Value ℤ) Fault} (g : Here → CAct (Value ℤ)) → e.node ≡ n → ((w : Here) → expr (clear s.first s.second) w e.spot e.ty n ≡ g w) → Walks s g m r m1 → RunsExpr s e m r m1
+  pub by_form : {e : TExpr} {n : TExprNode} {m m1 : Machine} {r : Result (Value ℤ) Fault} (g : Here → CAct (Value ℤ)) → e.node ≡ n → ((w : Here) → expr (clear s.first s.second) w e.spot e.ty n ≡ g w) → Walks s g m r m1 → RunsExpr s e m r m1
   by_form {e = e} {n = n} g h q x = record { runs = as_walk (λ w. whole (clear s.first s.second) w e) g (λ w. ap (λ c. expr (clear s.first s.second) w e.spot e.ty c) h ∙ q w) x }
 
   pub by_place : {e : TPlace} {n : PlaceNode} {m m1 : Machine} {r : Result Address Fault} (g : Here → CAct Address) → e.node ≡ n → ((w : Here) → place (clear s.first s.second) w e.spot e.ty n ≡ g w) → Walks s g m r m1 → RunsPlace s e m r m1

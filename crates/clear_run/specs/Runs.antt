@@ -14,8 +14,8 @@ use Rattle.oc_cells.specs.declared.memory.Address.{Address}
 use Rattle.oc_cells.specs.declared.types.SlotType.{SlotType}
 use Rattle.oc_tree.specs.declared.typed.TExpr.{TExpr}
 use Rattle.oc_tree.specs.declared.typed.TPlace.{TPlace}
-use Rattle.oc_tree.specs.declared.typed.Stmt.{Stmt}
-use Rattle.oc_tree.specs.declared.typed.Declared.{Declared}
+use Rattle.oc_tree.specs.declared.typed.TStmt.{TStmt}
+use Rattle.oc_tree.specs.declared.typed.TDeclared.{TDeclared}
 use Rattle.oc_source.specs.declared.spot.Spot.{Spot}
 use Rattle.oc_cells.specs.declared.trap.TrapKind.{TrapKind}
 use Rattle.oc_tree.specs.declared.outcome.Outcome.TheVariants.{Trap}
@@ -26,7 +26,7 @@ use Rattle.oc_tree.specs.Walking.{Mem, trap, transfers, State, Res, Go, Stop, En
 use Rattle.oc_tree.specs.Walk.{Around, A, V, whole, place, source_at, declares, declares_all, stepped, listed}
 use Rattle.oc_tree.specs.Domain.{Domain}
 use Rattle.oc_tree.specs.declared.run.Source.{Source}
-use Rattle.oc_tree.specs.declared.run.Source.TheVariants.{Shared}
+use Rattle.oc_tree.specs.declared.run.Source.TheVariants.{Public}
 use Rattle.oc_tree.specs.Clear.{clear, known_of}
 use Rattle.clear_run.specs.declared.machine.Machine.{Machine}
 use Rattle.clear_run.specs.declared.machine.Fault.{Fault}
@@ -91,7 +91,7 @@ fed q party k None = trap I1 q
 
 -- what the first of some expressions is to a feed
 abbrev pub source_in : List TExpr → Source
-source_in [] = Shared
+source_in [] = Public
 source_in (e ∷ es) = source_at e.spot e.node
 
 module _ (D : Domain) where
@@ -125,27 +125,27 @@ pub record WalksIn {A : Type 0} (s : ClearSetup) (slots : List SlotType) (walk :
   pub does : (room : ℕ) → Does (walk (around s slots room) (state m)) result (state new)
 
 -- the code makes and initialises a variable as its walk does
-pub record RunsDeclared (s : ClearSetup) (slots : List SlotType) (d : Declared) (m : Machine) (result : Result (Unit {0}) Fault) (new : Machine) : Type 0 where
+pub record RunsDeclared (s : ClearSetup) (slots : List SlotType) (d : TDeclared) (m : Machine) (result : Result (Unit {0}) Fault) (new : Machine) : Type 0 where
   pub runs : WalksIn s slots (λ w. declares (clear s.first s.second) w d) m result new
 
 -- the code makes and initialises the variables of a declaration, in order, as their walk does
-pub record RunsDeclares (s : ClearSetup) (slots : List SlotType) (ds : List Declared) (m : Machine) (result : Result Flow Fault) (new : Machine) : Type 0 where
+pub record RunsDeclares (s : ClearSetup) (slots : List SlotType) (ds : List TDeclared) (m : Machine) (result : Result Flow Fault) (new : Machine) : Type 0 where
   pub runs : WalksIn s slots (λ w. declares_all (clear s.first s.second) w ds) m result new
 
 -- the code runs a statement with its step as its walk does
-pub record RunsStmt (s : ClearSetup) (slots : List SlotType) (t : Stmt) (m : Machine) (result : Result Flow Fault) (new : Machine) : Type 0 where
+pub record RunsStmt (s : ClearSetup) (slots : List SlotType) (t : TStmt) (m : Machine) (result : Result Flow Fault) (new : Machine) : Type 0 where
   pub runs : WalksIn s slots (λ w. stepped (clear s.first s.second) w t) m result new
 
 -- the code runs the statements of a body, in order, as their walk does
-pub record RunsBody (s : ClearSetup) (slots : List SlotType) (ts : List Stmt) (m : Machine) (result : Result Flow Fault) (new : Machine) : Type 0 where
+pub record RunsBody (s : ClearSetup) (slots : List SlotType) (ts : List TStmt) (m : Machine) (result : Result Flow Fault) (new : Machine) : Type 0 where
   pub runs : WalksIn s slots (λ w. listed (clear s.first s.second) w ts) m result new
 
 -- after some of the declared names, these are left
-pub record Declaring (s : ClearSetup) (slots : List SlotType) (ds : List Declared) (m : Machine) (left : List Declared) (new : Machine) : Type 0 where
+pub record Declaring (s : ClearSetup) (slots : List SlotType) (ds : List TDeclared) (m : Machine) (left : List TDeclared) (new : Machine) : Type 0 where
   pub does : (room : ℕ) → declares_all (clear s.first s.second) (around s slots room) ds (state m) ≡ declares_all (clear s.first s.second) (around s slots room) left (state new)
 
 -- after some of the statements of a body, these are left
-pub record Passing (s : ClearSetup) (slots : List SlotType) (ts : List Stmt) (m : Machine) (left : List Stmt) (new : Machine) : Type 0 where
+pub record Passing (s : ClearSetup) (slots : List SlotType) (ts : List TStmt) (m : Machine) (left : List TStmt) (new : Machine) : Type 0 where
   pub does : (room : ℕ) → listed (clear s.first s.second) (around s slots room) ts (state m) ≡ listed (clear s.first s.second) (around s slots room) left (state new)
 
 -- the state that a run starts from

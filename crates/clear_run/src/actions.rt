@@ -4,6 +4,7 @@ ghost use Rattle.std.specs.Prelude.{◌≡◌, List, ℤ, reverse};
 ghost use Rattle.oc_tree.specs.Walking.{still, step, block_of};
 ghost use Rattle.oc_tree.specs.Values.{slot, reads, initializes, follows, constant, valued};
 ghost use Rattle.oc_tree.specs.Walk.{operates, opens};
+ghost use Rattle.oc_tree.specs.Typing.{is_sum};
 ghost use Rattle.oc_tree.specs.Clear.{clear};
 ghost use Rattle.oc_tree.specs.declared.outcome.Outcome.TheVariants.{Trap};
 ghost use Rattle.clear_run.specs.Runs.{Does, state, held};
@@ -15,7 +16,6 @@ use oc_cells::{Address, CType, CellValue, TrapKind};
 use oc_source::Spot;
 use oc_tree::{ClearSetup, Named, Outcome, Value};
 use oc_values::BinaryOp;
-use oc_values::{add, subtract};
 use std::alloc::Global;
 
 /// A trap as a fault.
@@ -138,6 +138,13 @@ pub fn number(m: &Machine<'_>, spot: Spot, ty: &CType, n: i128) -> Result<Value<
     }
 }
 
+/// Whether an operator is addition or subtraction.
+fn is_sum(op: BinaryOp) -> bool
+    ensures { result ≡ is_sum op }
+{
+    matches!(op, BinaryOp::Add | BinaryOp::Sub)
+}
+
 /// A sum or a difference of two operands of one type.
 pub fn operate(
     m: &Machine<'_>,
@@ -149,23 +156,18 @@ pub fn operate(
 ) -> Result<Value<i128>, Fault>
     ensures { Does (still (operates (clear setup.now.first setup.now.second) spot op left right) (state m.now)) result (state m.now) }
 {
-    match op {
-        BinaryOp::Add => match (left, right) {
-            (Value::Int(kind, x), Value::Int(_, y)) => Ok(Value::Int(kind, add(kind, x, y))),
-            (Value::Hidden(kind, x), Value::Hidden(_, y)) => Ok(Value::Hidden(
-                kind,
-                add(kind, x, y),
-            )),
-            _ => Err(trap(TrapKind::M5, spot)),
-        },
-        BinaryOp::Sub => match (left, right) {
-            (Value::Int(kind, x), Value::Int(_, y)) => Ok(Value::Int(kind, subtract(kind, x, y))),
-            (Value::Hidden(kind, x), Value::Hidden(_, y)) => Ok(Value::Hidden(
-                kind,
-                subtract(kind, x, y),
-            )),
-            _ => Err(trap(TrapKind::M5, spot)),
-        },
+    if !is_sum(op) {
+        return Err(trap(TrapKind::M5, spot));
+    }
+    match (left, right) {
+        (Value::Int(kind, x), Value::Int(_, y)) => Ok(Value::Int(
+            kind,
+            oc_values::operate(op, kind, x, y),
+        )),
+        (Value::Hidden(kind, x), Value::Hidden(_, y)) => Ok(Value::Hidden(
+            kind,
+            oc_values::operate(op, kind, x, y),
+        )),
         _ => Err(trap(TrapKind::M5, spot)),
     }
 }

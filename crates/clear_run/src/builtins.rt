@@ -14,8 +14,7 @@ use crate::memory::store_cell;
 use oc_cells::{CType, CellValue, TrapKind};
 use oc_source::Spot;
 use oc_tree::{Builtin, ClearSetup, Outcome, PrintPiece, ShownItem, Source, Value};
-use oc_values::{IntKind, convert};
-use oc_values::{Items, Name};
+use oc_values::{IntKind, Items, Name, convert};
 use std::alloc::{AllocError, Global};
 
 /// The words of a party.
@@ -105,7 +104,7 @@ fn feed(
 {
     match (source, value) {
         (Source::Word(at), Value::Int(_, index)) => feed_word(m, setup, at, party, kind, index),
-        (Source::Shared, Value::Hidden(_, n)) => Ok(Value::Hidden(kind, n)),
+        (Source::Public, Value::Hidden(_, n)) => Ok(Value::Hidden(kind, n)),
         _ => Err(trap(TrapKind::M5, spot)),
     }
 }

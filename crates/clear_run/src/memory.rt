@@ -8,7 +8,9 @@ ghost use Rattle.oc_cells.specs.declared.memory.Address.TheVariants.{At};
 ghost use Rattle.clear_run.specs.Runs.{Writes, HasCellIn, zero_of, MakesBlock};
 
 use crate::machine::Fault;
-use oc_cells::{Address, Block, CType, Cell, CellValue, Leaf, Row, TrapKind, fits_type, push_leaves, same_type};
+use oc_cells::{
+    Address, Block, CType, Cell, CellValue, Leaf, Row, TrapKind, fits_type, push_leaves, same_type,
+};
 use oc_source::Spot;
 use oc_tree::Outcome;
 use std::alloc::{AllocError, Global};

@@ -11,7 +11,10 @@ use crate::actions::{
 use crate::builtins::perform;
 use crate::machine::{Fault, Machine};
 use oc_cells::{Address, Row, SlotType, TrapKind};
-use oc_tree::{Builtin, ClearSetup, Declared, ExprNode, Flow, Outcome, PlaceNode, ShownItem, Source, Stmt, StmtNode, TExpr, TPlace, Typed, TypedFunction, Value};
+use oc_tree::{
+    Builtin, ClearSetup, Flow, Outcome, PlaceNode, ShownItem, Source, TDeclared, TExpr, TExprNode,
+    TPlace, TStmt, TStmtNode, Typed, TypedFunction, Value,
+};
 use oc_values::{Items, NoMemory};
 use std::alloc::Global;
 
@@ -23,14 +26,14 @@ fn find_source(args: &[TExpr]) -> Source
         Some(
             TExpr {
                 spot,
-                node: ExprNode::Builtin {
+                node: TExprNode::Builtin {
                     which: Builtin::Private,
                     ..
                 },
                 ..
             },
         ) => Source::Word(*spot),
-        _ => Source::Shared,
+        _ => Source::Public,
     }
 }
 
@@ -45,21 +48,21 @@ pub fn run_expr(
     ensures { RunsExpr setup.now e.now m.old result m.new }
 {
     match &e.node {
-        ExprNode::Number(n) => number(m, e.spot, &e.ty, *n),
-        ExprNode::Read(place) => {
+        TExprNode::Number(n) => number(m, e.spot, &e.ty, *n),
+        TExprNode::Read(place) => {
             let at = run_place(m, alloc, setup, place)?;
             read_cell(m, place.spot, &place.ty, at)
         }
-        ExprNode::AddressOf(place) => {
+        TExprNode::AddressOf(place) => {
             let at = run_place(m, alloc, setup, place)?;
             Ok(Value::Pointer(at))
         }
-        ExprNode::Binary { op, left, right } => {
+        TExprNode::Binary { op, left, right } => {
             let x = run_expr(m, alloc, setup, left.get())?;
             let y = run_expr(m, alloc, setup, right.get())?;
             operate(m, setup, e.spot, *op, x, y)
         }
-        ExprNode::Builtin { which, args } => {
+        TExprNode::Builtin { which, args } => {
             let values = run_exprs(m, alloc, setup, args.as_slice())?;
             let source = find_source(args.as_slice());
             perform(m, alloc, setup, e.spot, source, which, values.as_slice())
@@ -110,7 +113,7 @@ fn run_declared<'t>(
     alloc: Global,
     setup: &ClearSetup,
     slots: &'t Items<SlotType>,
-    declared: &Declared,
+    declared: &TDeclared,
 ) -> Result<(), Fault>
     ensures { RunsDeclared setup.now slots.now declared.now m.old result m.new }
 {
@@ -133,7 +136,7 @@ fn run_declares<'t>(
     alloc: Global,
     setup: &ClearSetup,
     slots: &'t Items<SlotType>,
-    all: &[Declared],
+    all: &[TDeclared],
 ) -> Result<Flow, Fault>
     ensures { RunsDeclares setup.now slots.now all.now m.old result m.new }
 {
@@ -149,14 +152,14 @@ fn run_statement<'t>(
     alloc: Global,
     setup: &ClearSetup,
     slots: &'t Items<SlotType>,
-    statement: &Stmt,
+    statement: &TStmt,
 ) -> Result<Flow, Fault>
     ensures { RunsStmt setup.now slots.now statement.now m.old result m.new }
 {
     spend(m)?;
     match &statement.node {
-        StmtNode::Declare(all) => run_declares(m, alloc, setup, slots, all.as_slice()),
-        StmtNode::Express(e) => {
+        TStmtNode::Declare(all) => run_declares(m, alloc, setup, slots, all.as_slice()),
+        TStmtNode::Express(e) => {
             run_expr(m, alloc, setup, e)?;
             Ok(Flow::Next)
         }
@@ -169,7 +172,7 @@ fn run_body<'t>(
     alloc: Global,
     setup: &ClearSetup,
     slots: &'t Items<SlotType>,
-    body: &[Stmt],
+    body: &[TStmt],
 ) -> Result<Flow, Fault>
     ensures { RunsBody setup.now slots.now body.now m.old result m.new }
 {

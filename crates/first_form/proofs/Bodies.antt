@@ -3,9 +3,9 @@ use Rattle.std.proofs.Common.{◌≡◌, ◌≤◌, ◌<◌, ◌+◌, take, get_
 use Rattle.std.proofs.lemmas.Bool.{and_parts, and_from}
 use Rattle.std.proofs.lemmas.List.{append-nil, length-append, take_more, take_all, drop_more, take-append-drop}
 use Rattle.oc_source.specs.declared.spot.Spot.{Spot}
-use Rattle.oc_source.specs.declared.parsed.Stmt.{Stmt as ParsedStmt}
+use Rattle.oc_source.specs.declared.parsed.Stmt.{Stmt}
 use Rattle.oc_cells.specs.declared.types.SlotType.{SlotType}
-use Rattle.oc_tree.specs.declared.typed.Stmt.{Stmt}
+use Rattle.oc_tree.specs.declared.typed.TStmt.{TStmt}
 use Rattle.first_form.specs.Items.{Item, Named, is_item, are_items, declared_by}
 use Rattle.first_form.specs.Trees.{first_of, parsed, parsed_items, statement, statements, slot_type, all_declared}
 use Rattle.first_form.specs.Bodies.{NoNext, IsNext, NoBody, IsBody}
@@ -17,7 +17,7 @@ parsed_length spots [] = refl
 parsed_length spots (i ∷ is) = ap suc (parsed_length (drop 1 spots) is)
 
 -- a body of more statements than items are allowed
-pub too_long : (xs : List ParsedStmt) → 101 ≤ length xs → NoBody xs
+pub too_long : (xs : List Stmt) → 101 ≤ length xs → NoBody xs
 too_long xs h spots is n f e = let l : length xs ≡ length is = ap length e ∙ parsed_length spots is in absurd (omega arith)
 
 -- ---- one item more
@@ -47,7 +47,7 @@ fit_more ds (k ∷ is) i h f =
     and_from _ _ p.0 (fit_more (ds ++ declared_by k) is i p.1 (ap (λ ds. is_item ds i) (append_assoc ds (declared_by k) (all_declared is)) ∙ f))
 
 -- the items that were read so far
-pub record SoFar (xs : List ParsedStmt) (ds : List Named) (body : List Stmt) : Type 0 where
+pub record SoFar (xs : List Stmt) (ds : List Named) (body : List TStmt) : Type 0 where
   pub items : List Item
   pub spots : List (List Spot)
   pub even : length spots ≡ length items
@@ -59,7 +59,7 @@ pub record SoFar (xs : List ParsedStmt) (ds : List Named) (body : List Stmt) : T
 pub none_yet : SoFar [] [] []
 none_yet = record { items = []; spots = []; even = refl; fit = refl; source = refl; names = refl; trees = refl }
 
-pub one_more : (xs : List ParsedStmt) (ds es : List Named) (body : List Stmt) (x : ParsedStmt) (t : Stmt) → SoFar xs ds body → IsNext ds es x t → SoFar (xs ++ x ∷ []) es (body ++ t ∷ [])
+pub one_more : (xs : List Stmt) (ds es : List Named) (body : List TStmt) (x : Stmt) (t : TStmt) → SoFar xs ds body → IsNext ds es x t → SoFar (xs ++ x ∷ []) es (body ++ t ∷ [])
 one_more xs ds es body x t s n = record {
   items = s.items ++ n.item ∷ [];
   spots = s.spots ++ n.spots ∷ [];
@@ -72,7 +72,7 @@ one_more xs ds es body x t s n = record {
 
 -- ---- where a body stops being of items
 
-stops : (ds : List Named) (spots : List (List Spot)) (is : List Item) (x : ParsedStmt) (rest : List ParsedStmt) → NoNext (ds ++ all_declared is) x → (zs : List (List Spot)) (ks : List Item) → are_items ds ks ≡ true → parsed_items spots is ++ x ∷ rest ≡ parsed_items zs ks → ⊥
+stops : (ds : List Named) (spots : List (List Spot)) (is : List Item) (x : Stmt) (rest : List Stmt) → NoNext (ds ++ all_declared is) x → (zs : List (List Spot)) (ks : List Item) → are_items ds ks ≡ true → parsed_items spots is ++ x ∷ rest ≡ parsed_items zs ks → ⊥
 stops ds spots [] x rest f zs [] h e = cc
 stops ds spots [] x rest f zs (k ∷ ks) h e =
     f (first_of zs) k (ap (λ ds. is_item ds k) (append-nil ds) ∙ (and_parts (is_item ds k) (are_items (ds ++ declared_by k) ks) h).0) (firsts x (parsed (first_of zs) k) rest (parsed_items (drop 1 zs) ks) e).0
@@ -83,11 +83,11 @@ stops ds spots (i ∷ is) x rest f zs (k ∷ ks) h e =
     let d = declared_once (first_of spots) (first_of zs) i k q.0 in
     stops (ds ++ declared_by i) (drop 1 spots) is x rest (subst (λ ds. NoNext ds x) (sym (append_assoc ds (declared_by i) (all_declared is))) f) (drop 1 zs) ks (subst (λ l. are_items (ds ++ l) ks ≡ true) (sym d) p.1) q.1
 
-pub stopped : (xs all : List ParsedStmt) (ds : List Named) (body : List Stmt) (x : ParsedStmt) (rest : List ParsedStmt) → SoFar xs ds body → NoNext ds x → all ≡ xs ++ x ∷ rest → NoBody all
+pub stopped : (xs all : List Stmt) (ds : List Named) (body : List TStmt) (x : Stmt) (rest : List Stmt) → SoFar xs ds body → NoNext ds x → all ≡ xs ++ x ∷ rest → NoBody all
 stopped xs all ds body x rest s f h zs ks n g e =
     stops [] s.spots s.items x rest (subst (λ ds. NoNext ds x) s.names f) zs ks g (sym (h ∙ ap (λ l. l ++ x ∷ rest) s.source) ∙ e)
 
-pub at_end : (xs : List ParsedStmt) (ds : List Named) (body : List Stmt) (slots : List SlotType) → length xs ≤ 100 → SoFar xs ds body → slots ≡ map slot_type ds → IsBody xs slots body
+pub at_end : (xs : List Stmt) (ds : List Named) (body : List TStmt) (slots : List SlotType) → length xs ≤ 100 → SoFar xs ds body → slots ≡ map slot_type ds → IsBody xs slots body
 at_end xs ds body slots h s v = record {
   items = s.items;
   spots = s.spots;
@@ -100,18 +100,18 @@ at_end xs ds body slots h s v = record {
 
 -- ---- the loop
 
-pub begun : (ds : List Named) (body : List Stmt) → ds ≡ [] → body ≡ [] → SoFar [] ds body
+pub begun : (ds : List Named) (body : List TStmt) → ds ≡ [] → body ≡ [] → SoFar [] ds body
 begun ds body d b = subst (λ ds. SoFar [] ds body) (sym d) (subst (SoFar [] []) (sym b) none_yet)
 
 pub parted : {A : Type 0} (xs : List A) (i : ℕ) (x : A) → i < length xs → x ≡ get_or xs i x → xs ≡ take i xs ++ x ∷ drop (i + 1) xs
 parted xs i x h e = sym (take-append-drop i xs) ∙ ap (λ l. take i xs ++ l) (drop_more xs i x h ∙ ap (λ y. y ∷ drop (i + 1) xs) (sym e))
 
-pub went_on : (xs : List ParsedStmt) (i : ℕ) (ds es : List Named) (body after : List Stmt) (x : ParsedStmt) (t : Stmt) → i < length xs → x ≡ get_or xs i x → after ≡ body ++ t ∷ [] → SoFar (take i xs) ds body → IsNext ds es x t → SoFar (take (i + 1) xs) es after
+pub went_on : (xs : List Stmt) (i : ℕ) (ds es : List Named) (body after : List TStmt) (x : Stmt) (t : TStmt) → i < length xs → x ≡ get_or xs i x → after ≡ body ++ t ∷ [] → SoFar (take i xs) ds body → IsNext ds es x t → SoFar (take (i + 1) xs) es after
 went_on xs i ds es body after x t h e k s n =
     subst (λ b. SoFar (take (i + 1) xs) es b) (sym k) (subst (λ l. SoFar l es (body ++ t ∷ [])) (sym (take_more xs i x h ∙ ap (λ y. take i xs ++ y ∷ []) (sym e))) (one_more (take i xs) ds es body x t s n))
 
-pub gave_up : (xs : List ParsedStmt) (i : ℕ) (ds : List Named) (body : List Stmt) (x : ParsedStmt) → i < length xs → x ≡ get_or xs i x → SoFar (take i xs) ds body → NoNext ds x → NoBody xs
+pub gave_up : (xs : List Stmt) (i : ℕ) (ds : List Named) (body : List TStmt) (x : Stmt) → i < length xs → x ≡ get_or xs i x → SoFar (take i xs) ds body → NoNext ds x → NoBody xs
 gave_up xs i ds body x h e s f = stopped (take i xs) xs ds body x (drop (i + 1) xs) s f (parted xs i x h e)
 
-pub went_through : (xs : List ParsedStmt) (i : ℕ) (ds : List Named) (body : List Stmt) (slots : List SlotType) → length xs ≤ 100 → length xs ≤ i → SoFar (take i xs) ds body → slots ≡ map slot_type ds → IsBody xs slots body
+pub went_through : (xs : List Stmt) (i : ℕ) (ds : List Named) (body : List TStmt) (slots : List SlotType) → length xs ≤ 100 → length xs ≤ i → SoFar (take i xs) ds body → slots ≡ map slot_type ds → IsBody xs slots body
 went_through xs i ds body slots n h s v = at_end xs ds body slots n (subst (λ l. SoFar l ds body) (take_all i xs h) s) v

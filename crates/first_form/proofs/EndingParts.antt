@@ -10,7 +10,7 @@ use Rattle.oc_values.specs.Integers.{operate, convert}
 use Rattle.oc_source.specs.declared.spot.Spot.{Spot}
 use Rattle.oc_cells.specs.declared.types.CType.{CType, Int}
 use Rattle.oc_tree.specs.declared.typed.TExpr.{TExpr}
-use Rattle.oc_tree.specs.declared.typed.ExprNode.{Number, Binary, Builtin as Call}
+use Rattle.oc_tree.specs.declared.typed.TExprNode.{Number, Binary, Builtin as Call}
 use Rattle.oc_tree.specs.declared.typed.Builtin.TheVariants.{Private, Feed}
 use Rattle.oc_cells.specs.declared.types.SlotType.{SlotType}
 use Rattle.oc_tree.specs.declared.run.Source.{Source}

@@ -10,7 +10,7 @@ use Rattle.oc_source.specs.declared.spot.Spot.{Spot}
 use Rattle.oc_cells.specs.declared.types.CType.{Int, Pointer, Nothing as NoType}
 use Rattle.oc_cells.specs.declared.types.SlotType.{SlotType}
 use Rattle.oc_tree.specs.declared.typed.TExpr.{TExpr}
-use Rattle.oc_tree.specs.declared.typed.ExprNode.{AddressOf}
+use Rattle.oc_tree.specs.declared.typed.TExprNode.{AddressOf}
 use Rattle.oc_tree.specs.declared.run.Source.{Source}
 use Rattle.oc_tree.specs.declared.typed.Builtin.TheVariants.{Reveal, Print}
 use Rattle.oc_tree.specs.declared.typed.PrintPiece.TheVariants.{Text, Decimal}

@@ -6,8 +6,8 @@ use Rattle.oc_cells.specs.declared.types.CType.{CType}
 use Rattle.oc_tree.specs.declared.typed.TExpr.{TExpr}
 use Rattle.oc_tree.specs.declared.typed.Builtin.{Builtin}
 use Rattle.oc_tree.specs.declared.typed.Builtin.TheVariants.{Private}
-use Rattle.oc_tree.specs.declared.typed.ExprNode.{Binary, Builtin as Call}
-use Rattle.oc_tree.specs.declared.typed.ExprNode.TheBlock.{hidden-the_row-TExpr-0, hidden-the_row-TExpr-1}
+use Rattle.oc_tree.specs.declared.typed.TExprNode.{Binary, Builtin as Call}
+use Rattle.oc_tree.specs.declared.typed.TExprNode.TheBlock.{hidden-the_row-TExpr-0, hidden-the_row-TExpr-1}
 use Rattle.oc_tree.specs.declared.run.Source.TheVariants.{Word}
 use denote.Hole.Carrier.{hidden}
 use Rattle.oc_tree.specs.Walking.{bind, pure, still}

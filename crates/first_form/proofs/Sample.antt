@@ -13,7 +13,7 @@ use Rattle.oc_source.specs.declared.parsed.Stmt.{Stmt}
 use Rattle.oc_source.specs.declared.parsed.StmtNode.TheVariants as st
 use Rattle.oc_tree.specs.declared.typed.TypedFunction.{TypedFunction}
 use Rattle.oc_tree.specs.declared.program.Typed.{Typed}
-use Rattle.oc_tree.specs.declared.typed.ExprNode.TheBlock.{hidden-the_row-TExpr-0, hidden-the_row-TExpr-1}
+use Rattle.oc_tree.specs.declared.typed.TExprNode.TheBlock.{hidden-the_row-TExpr-0, hidden-the_row-TExpr-1}
 use Rattle.oc_cells.specs.declared.types.CType.TheBlock.{hidden-the_row-CType-0}
 use denote.Hole.Carrier.{hidden}
 use Rattle.oc_source.specs.Parsed.{expr, stmt, int_base, field, declared}

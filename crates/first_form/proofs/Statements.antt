@@ -8,7 +8,7 @@ use Rattle.oc_source.specs.declared.parsed.BaseKind.{BaseKind}
 use Rattle.oc_source.specs.declared.parsed.BaseKind.TheVariants as base
 use Rattle.oc_source.specs.declared.parsed.FieldDef.{FieldDef}
 use Rattle.oc_source.specs.declared.parsed.Declared.{Declared}
-use Rattle.oc_source.specs.declared.parsed.Stmt.{Stmt as ParsedStmt}
+use Rattle.oc_source.specs.declared.parsed.Stmt.{Stmt}
 use Rattle.oc_source.specs.declared.parsed.StmtNode.{StmtNode}
 use Rattle.oc_source.specs.declared.parsed.StmtNode.TheVariants as st
 use Rattle.oc_source.specs.Parsed.{stmt, int_base, field, declared}
@@ -19,9 +19,9 @@ use Rattle.first_form.specs.Reading.{ItemRead, NoItem}
 use Rattle.first_form.proofs.Forms.{firsts}
 
 pub statements_agree : (p q : Spot) (m n : StmtNode) → stmt p m ≡ stmt q n → m ≡ n
-statements_agree p q m n h = ap (λ (x : ParsedStmt). x.node) h
+statements_agree p q m n h = ap (λ (x : Stmt). x.node) h
 
-pub whole_statement : (x : ParsedStmt) (node : StmtNode) → x.node ≡ node → x ≡ stmt x.spot node
+pub whole_statement : (x : Stmt) (node : StmtNode) → x.node ≡ node → x ≡ stmt x.spot node
 whole_statement x node h = ap (stmt x.spot) h
 
 declarations_agree : (d e : Declared) → st.Declare (d ∷ []) ≡ st.Declare (e ∷ []) → d ≡ e
@@ -76,7 +76,7 @@ no_expression x f g s ss (Prints name) h = g (at ss 1) (at ss 2) (at ss 3) name 
 
 -- ---- a statement by its node
 
-pub by_node : (x : ParsedStmt) (node : StmtNode) (r : Option SourceItem) → x.node ≡ node → MatchOption r ((s : Spot) → NoItem (stmt s node)) (λ i. (s : Spot) → ItemRead (stmt s node) i) → MatchOption r (NoItem x) (λ i. ItemRead x i)
+pub by_node : (x : Stmt) (node : StmtNode) (r : Option SourceItem) → x.node ≡ node → MatchOption r ((s : Spot) → NoItem (stmt s node)) (λ i. (s : Spot) → ItemRead (stmt s node) i) → MatchOption r (NoItem x) (λ i. ItemRead x i)
 by_node x node None h f = λ ss i k. f x.spot ss i (sym (whole_statement x node h) ∙ k)
 by_node x node (Some i) h f = subst (λ x. ItemRead x i) (sym (whole_statement x node h)) (f x.spot)
 

@@ -12,8 +12,8 @@ use Rattle.oc_cells.specs.declared.types.CType.{Pointer, Nothing}
 use Rattle.oc_cells.specs.declared.types.CType.TheBlock.{hidden-the_row-CType-0}
 use Rattle.oc_cells.specs.declared.types.SlotType.{SlotType}
 use Rattle.oc_tree.specs.declared.typed.TExpr.{TExpr}
-use Rattle.oc_tree.specs.declared.typed.ExprNode.{ExprNode, AddressOf, Binary, Builtin}
-use Rattle.oc_tree.specs.declared.typed.ExprNode.TheBlock.{hidden-the_row-TExpr-0, hidden-the_row-TExpr-1}
+use Rattle.oc_tree.specs.declared.typed.TExprNode.{TExprNode, AddressOf, Binary, Builtin}
+use Rattle.oc_tree.specs.declared.typed.TExprNode.TheBlock.{hidden-the_row-TExpr-0, hidden-the_row-TExpr-1}
 use Rattle.oc_tree.specs.declared.typed.Builtin.TheVariants.{Reveal, Print}
 use Rattle.oc_tree.specs.declared.typed.PrintPiece.TheVariants.{Text, Decimal}
 use denote.Hole.Carrier.{hidden}
@@ -62,7 +62,7 @@ sums_agree Add = refl
 sums_agree Sub = refl
 sums_agree _ = refl
 
-binary_typed : (ss : List SlotType) (op : BinaryOp) (q r : Spot) (m n : ExprNode) → is_plus_or_minus op ≡ true → typed_expr ss (int_type true) m ≡ true → typed_expr ss (int_type true) n ≡ true
+binary_typed : (ss : List SlotType) (op : BinaryOp) (q r : Spot) (m n : TExprNode) → is_plus_or_minus op ≡ true → typed_expr ss (int_type true) m ≡ true → typed_expr ss (int_type true) n ≡ true
     → typed_expr ss (int_type true) (Binary op (record { spot = q; ty = int_type true; node = m }) (record { spot = r; ty = int_type true; node = n })) ≡ true
 unfolding hidden-the_row-TExpr-0 hidden-the_row-TExpr-1 hidden-the_row-CType-0 hidden
 binary_typed ss op q r m n sum left right = and_from _ _ (and_from _ _ (and_from _ _ (and_from _ _ (and_from _ _ (sym (sums_agree op) ∙ sum) refl) refl) refl) left) right
@@ -86,7 +86,7 @@ summed_hidden ds spots left (s ∷ more) h l =
 
 -- ---- items
 
-reveals_typed_at : (ss : List SlotType) (p q r : Spot) (slot : ℕ) (n : ExprNode) → HoldsInt ss false slot → typed_expr ss (int_type true) n ≡ true
+reveals_typed_at : (ss : List SlotType) (p q r : Spot) (slot : ℕ) (n : TExprNode) → HoldsInt ss false slot → typed_expr ss (int_type true) n ≡ true
     → typed_expr ss Nothing (Builtin (Reveal I32) (record { spot = p; ty = Pointer false (int_type false); node = AddressOf (variable q false slot) } ∷ record { spot = r; ty = int_type true; node = n } ∷ [])) ≡ true
 unfolding hidden-the_row-TExpr-0 hidden-the_row-TExpr-1 hidden-the_row-CType-0 hidden
 reveals_typed_at ss p q r slot n there sum = and_from _ _ (ap (is_of_slot (int_type false)) there) sum

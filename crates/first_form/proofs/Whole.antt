@@ -6,14 +6,14 @@ use Rattle.std.proofs.lemmas.Bool.{and_parts, and_from, le-leb, leb-true}
 use Rattle.oc_values.specs.declared.integers.IntKind.TheVariants.{I32}
 use Rattle.oc_source.specs.declared.spot.Spot.{Spot}
 use Rattle.oc_source.specs.declared.parsed.Expr.{Expr}
-use Rattle.oc_source.specs.declared.parsed.Stmt.{Stmt as ParsedStmt}
+use Rattle.oc_source.specs.declared.parsed.Stmt.{Stmt}
 use Rattle.oc_source.specs.declared.parsed.StmtNode.{StmtNode, Declare}
 use Rattle.oc_source.specs.declared.parsed.StmtNode.TheVariants as st
 use Rattle.oc_tree.specs.declared.typed.TExpr.{TExpr}
-use Rattle.oc_tree.specs.declared.typed.ExprNode.{Builtin}
+use Rattle.oc_tree.specs.declared.typed.TExprNode.{Builtin}
 use Rattle.oc_tree.specs.declared.typed.Builtin.TheVariants.{Reveal, Print}
 use Rattle.oc_tree.specs.declared.typed.PrintPiece.TheVariants.{Text, Decimal}
-use Rattle.oc_tree.specs.declared.typed.Stmt.{Stmt}
+use Rattle.oc_tree.specs.declared.typed.TStmt.{TStmt}
 use Rattle.oc_source.specs.Parsed.{stmt}
 use Rattle.first_form.specs.declared.item.SourceItem.{SourceItem}
 use Rattle.first_form.specs.declared.item.SourceItem.TheVariants as source
@@ -30,8 +30,8 @@ use Rattle.first_form.proofs.Sums.{Spelled, spelled, sums_on, wider}
 
 -- ---- what is built is an item's
 
-module _ (ds : List Named) (x : ParsedStmt) where
-  pub sum_next : (r : SourceReveal) (t : Stmt) (zero_spot : Spot) (u : TExpr) → x ≡ stmt x.spot (st.Express (revealing r.call r.address r.target.spot zero_spot r.target.text.now r.sum.now)) → is_known ds false r.target.text.now ≡ true
+module _ (ds : List Named) (x : Stmt) where
+  pub sum_next : (r : SourceReveal) (t : TStmt) (zero_spot : Spot) (u : TExpr) → x ≡ stmt x.spot (st.Express (revealing r.call r.address r.target.spot zero_spot r.target.text.now r.sum.now)) → is_known ds false r.target.text.now ≡ true
       → t ≡ calling x.spot r.call (Builtin (Reveal I32) (pointing r.address r.target.spot (slot_of r.target.text.now ds) ∷ u ∷ [])) → Spelled ds 8 r.sum.now u [] [] → IsNext ds (ds ++ []) x t
   sum_next r t z u h k g s = record {
     spots = x.spot ∷ r.call ∷ r.address ∷ r.target.spot ∷ z ∷ s.first ∷ s.others;
@@ -42,7 +42,7 @@ module _ (ds : List Named) (x : ParsedStmt) where
     names = refl;
   }
 
-  pub built : (r : SourceItem) (t : Stmt) → ItemRead x r → Builds ds x.spot r t → IsNext ds (ds ++ declared_of r) x t
+  pub built : (r : SourceItem) (t : TStmt) → ItemRead x r → Builds ds x.spot r t → IsNext ds (ds ++ declared_of r) x t
   built (source.Feeds name f) t i b = record {
     spots = x.spot ∷ name.spot ∷ i.first ∷ f.call ∷ f.word ∷ f.index ∷ i.second ∷ [];
     item = Feeds name.text.now f.party;
@@ -91,12 +91,12 @@ parsed_declares ss (Prints name) = refl
 
 -- two items of one statement declare the same
 pub declared_once : (ss zs : List Spot) (i k : Item) → parsed ss i ≡ parsed zs k → declared_by i ≡ declared_by k
-declared_once ss zs i k h = sym (parsed_declares ss i) ∙ ap (λ (x : ParsedStmt). declared_in x.node) h ∙ parsed_declares zs k
+declared_once ss zs i k h = sym (parsed_declares ss i) ∙ ap (λ (x : Stmt). declared_in x.node) h ∙ parsed_declares zs k
 
 -- ---- what no item is of
 
 declared_so : (s p q : Spot) (r : SourceItem) (ss : List Spot) (i : Item) → source_of s p q r ≡ parsed ss i → declared_of r ≡ declared_by i
-declared_so s p q r ss i h = sym (source_declares s p q r) ∙ ap (λ (x : ParsedStmt). declared_in x.node) h ∙ parsed_declares ss i
+declared_so s p q r ss i h = sym (source_declares s p q r) ∙ ap (λ (x : Stmt). declared_in x.node) h ∙ parsed_declares ss i
 
 first_is : (d e : Named) → d ∷ [] ≡ e ∷ [] → d ≡ e
 first_is d e h = cc
@@ -121,7 +121,7 @@ printing_names p q r u v w m n h = names_agree r w m n (two_same (printing p q r
 module _ (ds : List Named) (s p q : Spot) where
   -- nothing can be built of the item
   abbrev pub Unbuilt : SourceItem → Type 0
-  Unbuilt r = (t : Stmt) → Builds ds s r t → ⊥
+  Unbuilt r = (t : TStmt) → Builds ds s r t → ⊥
 
   sum_built : (r : SourceReveal) (ss : List Spot) (target name : List ℕ) (more : List Summand) → is_item ds (Reveals target name more) ≡ true → r.target.text.now ≡ target → r.sum.now ≡ sum (drop 6 ss) (name_at (at ss 5) name) more → Unbuilt (source.Reveals r) → ⊥
   sum_built r ss target name more h e f refused =
@@ -160,5 +160,5 @@ module _ (ds : List Named) (s p q : Spot) where
       let k = printing_names _ _ _ _ _ _ _ _ (expressions_agree _ _ (statements_agree s (at ss 0) _ _ e)) in
       refused (calling s c (Builtin (Print (Decimal ∷ Text (10 ∷ []) ∷ [])) (reading n.spot false (slot_of n.text.now ds) ∷ []))) (ap (is_known ds false) k ∙ h, refl)
 
-pub none_built : (ds : List Named) (x : ParsedStmt) (r : SourceItem) → ItemRead x r → ((t : Stmt) → Builds ds x.spot r t → ⊥) → NoNext ds x
+pub none_built : (ds : List Named) (x : Stmt) (r : SourceItem) → ItemRead x r → ((t : TStmt) → Builds ds x.spot r t → ⊥) → NoNext ds x
 none_built ds x r i refused ss k h e = unbuilt ds x.spot i.first i.second r ss k h (sym i.whole ∙ e) refused

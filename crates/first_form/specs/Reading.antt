@@ -5,7 +5,7 @@ use Rattle.oc_source.specs.declared.spot.Spot.{Spot}
 use Rattle.oc_source.specs.declared.literal.Literal.{Literal}
 use Rattle.oc_source.specs.declared.parsed.Expr.{Expr}
 use Rattle.oc_source.specs.declared.parsed.FieldDef.{FieldDef}
-use Rattle.oc_source.specs.declared.parsed.Stmt.{Stmt as ParsedStmt}
+use Rattle.oc_source.specs.declared.parsed.Stmt.{Stmt}
 use Rattle.oc_source.specs.declared.parsed.StmtNode.TheVariants as st
 use Rattle.oc_source.specs.Parsed.{stmt, int_base, field}
 use Rattle.first_form.specs.declared.node.SourceName.{SourceName}
@@ -58,7 +58,7 @@ pub record PrintRead (x : Expr) (call : Spot) (name : SourceName) : Type 0 where
   pub whole : x ≡ printing call text_spot name.spot name.text.now
 
 -- The statement that an item was read from. The two spots are those that the item doesn't keep.
-abbrev pub source_of : Spot → Spot → Spot → SourceItem → ParsedStmt
+abbrev pub source_of : Spot → Spot → Spot → SourceItem → Stmt
 source_of s p q (source.Feeds name f) = declaration s name.spot p true name.text.now (Some (feed f.call f.word f.index q f.party))
 source_of s p q (source.Declares name) = declaration s name.spot p false name.text.now None
 source_of s p q (source.Reveals r) = stmt s (st.Express (revealing r.call r.address r.target.spot p r.target.text.now r.sum.now))
@@ -70,12 +70,12 @@ feeds_party (source.Feeds name f) = is_party f.party
 feeds_party _ = true
 
 -- the item was read from this statement, and its party is 1 or 2 where it feeds a name
-pub record ItemRead (x : ParsedStmt) (i : SourceItem) : Type 0 where
+pub record ItemRead (x : Stmt) (i : SourceItem) : Type 0 where
   pub first : Spot
   pub second : Spot
   pub whole : x ≡ source_of x.spot first second i
   pub one : IsTrue (feeds_party i)
 
 -- no item has this statement
-abbrev pub NoItem : ParsedStmt → Type 0
+abbrev pub NoItem : Stmt → Type 0
 NoItem x = (ss : List Spot) (i : Item) → x ≡ parsed ss i → ⊥

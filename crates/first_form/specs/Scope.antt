@@ -6,10 +6,10 @@ use Rattle.oc_source.specs.declared.spot.Spot.{Spot}
 use Rattle.oc_source.specs.declared.parsed.Expr.{Expr}
 use Rattle.oc_source.specs.declared.parsed.ExprNode.TheVariants as e
 use Rattle.oc_tree.specs.declared.typed.TExpr.{TExpr}
-use Rattle.oc_tree.specs.declared.typed.ExprNode.{Binary, Builtin}
+use Rattle.oc_tree.specs.declared.typed.TExprNode.{Binary, Builtin}
 use Rattle.oc_tree.specs.declared.typed.Builtin.TheVariants.{Reveal, Print}
 use Rattle.oc_tree.specs.declared.typed.PrintPiece.TheVariants.{Text, Decimal}
-use Rattle.oc_tree.specs.declared.typed.Stmt.{Stmt}
+use Rattle.oc_tree.specs.declared.typed.TStmt.{TStmt}
 use Rattle.oc_source.specs.Parsed.{expr}
 use Rattle.first_form.specs.declared.node.SourceName.{SourceName}
 use Rattle.first_form.specs.declared.item.SourceItem.{SourceItem}
@@ -46,7 +46,7 @@ pub data Sums (ds : List Named) : ℕ → Expr → TExpr → Type 0 where
       → Sums ds (suc n) (expr p (e.Binary op x y)) (record { spot = p; ty = int_type true; node = Binary op t u })
 
 -- the typed statement of an item at a spot, whose names are declared as it needs
-abbrev pub Builds : List Named → Spot → SourceItem → Stmt → Type 0
+abbrev pub Builds : List Named → Spot → SourceItem → TStmt → Type 0
 Builds ds s (source.Feeds name f) t = (is_new ds name.text.now ≡ true) × (t ≡ declaring s name.spot (length ds) (Some (fed f.call f.word f.index f.party)))
 Builds ds s (source.Declares name) t = (is_new ds name.text.now ≡ true) × (t ≡ declaring s name.spot (length ds) None)
 Builds ds s (source.Reveals r) t =

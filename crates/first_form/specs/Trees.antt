@@ -6,19 +6,19 @@ use Rattle.oc_source.specs.declared.literal.Literal.{Literal}
 use Rattle.oc_source.specs.declared.parsed.Expr.{Expr}
 use Rattle.oc_source.specs.declared.parsed.ExprNode.TheVariants as e
 use Rattle.oc_source.specs.declared.parsed.UnaryOp.TheVariants.{Address}
-use Rattle.oc_source.specs.declared.parsed.Stmt.{Stmt as ParsedStmt}
+use Rattle.oc_source.specs.declared.parsed.Stmt.{Stmt}
 use Rattle.oc_source.specs.declared.parsed.StmtNode.TheVariants as st
 use Rattle.oc_source.specs.declared.parsed.Function.{Function}
 use Rattle.oc_cells.specs.declared.types.CType.{CType, Int, Pointer, Nothing}
 use Rattle.oc_cells.specs.declared.types.SlotType.{SlotType}
 use Rattle.oc_tree.specs.declared.typed.TExpr.{TExpr}
 use Rattle.oc_tree.specs.declared.typed.TPlace.{TPlace}
-use Rattle.oc_tree.specs.declared.typed.ExprNode.{ExprNode, Number, Read, AddressOf, Binary, Builtin}
+use Rattle.oc_tree.specs.declared.typed.TExprNode.{TExprNode, Number, Read, AddressOf, Binary, Builtin}
 use Rattle.oc_tree.specs.declared.typed.PlaceNode.{Slot}
 use Rattle.oc_tree.specs.declared.typed.Builtin.TheVariants.{Private, Feed, Reveal, Print}
 use Rattle.oc_tree.specs.declared.typed.PrintPiece.TheVariants.{Text, Decimal}
-use Rattle.oc_tree.specs.declared.typed.Stmt.{Stmt}
-use Rattle.oc_tree.specs.declared.typed.StmtNode.TheVariants.{Declare, Express}
+use Rattle.oc_tree.specs.declared.typed.TStmt.{TStmt}
+use Rattle.oc_tree.specs.declared.typed.TStmtNode.TheVariants.{Declare, Express}
 use Rattle.oc_tree.specs.declared.typed.TypedFunction.{TypedFunction}
 use Rattle.oc_source.specs.Parsed.{expr, stmt, int_base, field, declared}
 use Rattle.first_form.specs.Items.{Item, Feeds, Declares, Reveals, Prints, Summand, Named, same_bytes, declared_by}
@@ -65,7 +65,7 @@ abbrev pub call : Spot → List ℕ → List Expr → Expr
 call spot name args = expr spot (e.Call name args)
 
 -- `int`, marked as hidden or not, a name, and its start
-abbrev pub declaration : Spot → Spot → Spot → Bool → List ℕ → Option Expr → ParsedStmt
+abbrev pub declaration : Spot → Spot → Spot → Bool → List ℕ → Option Expr → Stmt
 declaration spot name_spot type_spot hidden name init = stmt spot (st.Declare (declared (field name_spot name (int_base type_spot false hidden I32) 0 []) init ∷ []))
 
 -- `feedOblivInt(ocPrivate(0), party)`
@@ -90,19 +90,19 @@ printing spot text_spot name_spot name = call spot (codes "printf") (expr text_s
 -- of `Declares` those of the name and the type,
 -- of `Reveals` those of the call, the address, the target, 0, the first name, and two for each name more,
 -- of `Prints` those of the call, the text and the name.
-abbrev pub parsed : List Spot → Item → ParsedStmt
+abbrev pub parsed : List Spot → Item → Stmt
 parsed ss (Feeds name party) = declaration (at ss 0) (at ss 1) (at ss 2) true name (Some (feed (at ss 3) (at ss 4) (at ss 5) (at ss 6) party))
 parsed ss (Declares name) = declaration (at ss 0) (at ss 1) (at ss 2) false name None
 parsed ss (Reveals target name more) = stmt (at ss 0) (st.Express (revealing (at ss 1) (at ss 2) (at ss 3) (at ss 4) target (sum (drop 6 ss) (name_at (at ss 5) name) more)))
 parsed ss (Prints name) = stmt (at ss 0) (st.Express (printing (at ss 1) (at ss 2) (at ss 3) name))
 
 -- the parsed statements of items, with one list of spots an item
-abbrev pub parsed_items : List (List Spot) → List Item → List ParsedStmt
+abbrev pub parsed_items : List (List Spot) → List Item → List Stmt
 parsed_items spots [] = []
 parsed_items spots (i ∷ is) = parsed (first_of spots) i ∷ parsed_items (drop 1 spots) is
 
 -- `void oc_main(void)` with this body
-abbrev pub function_with : Spot → List ParsedStmt → Function
+abbrev pub function_with : Spot → List Stmt → Function
 function_with spot body = record { spot = spot; name = codes "oc_main"; result = None; params = []; obliv = false; body = Some body }
 
 -- `void oc_main(void)` whose body is these items, with one list of spots an item
@@ -144,15 +144,15 @@ abbrev pub pointing : Spot → Spot → ℕ → TExpr
 pointing spot name_spot slot = record { spot = spot; ty = Pointer false (int_type false); node = AddressOf (variable name_spot false slot) }
 
 -- the statement that declares the variable of a slot, and its start; the second spot is that of the name
-abbrev pub declaring : Spot → Spot → ℕ → Option TExpr → Stmt
+abbrev pub declaring : Spot → Spot → ℕ → Option TExpr → TStmt
 declaring spot name slot init = record { spot = spot; node = Declare (record { spot = name; slot = slot; init = init } ∷ []) }
 
 -- the statement that is a call without a result; the second spot is that of the call
-abbrev pub calling : Spot → Spot → ExprNode → Stmt
+abbrev pub calling : Spot → Spot → TExprNode → TStmt
 calling spot call_spot node = record { spot = spot; node = Express (record { spot = call_spot; ty = Nothing; node = node }) }
 
 -- the typed statement of an item after these names, whose nodes have the spots of the parsed ones
-abbrev pub statement : List Named → List Spot → Item → Stmt
+abbrev pub statement : List Named → List Spot → Item → TStmt
 statement ds ss (Feeds name party) = declaring (at ss 0) (at ss 1) (length ds) (Some (fed (at ss 3) (at ss 4) (at ss 5) party))
 statement ds ss (Declares name) = declaring (at ss 0) (at ss 1) (length ds) None
 statement ds ss (Reveals target name more) =
@@ -161,7 +161,7 @@ statement ds ss (Prints name) =
     calling (at ss 0) (at ss 1) (Builtin (Print (Decimal ∷ Text (10 ∷ []) ∷ [])) (reading (at ss 3) false (slot_of name ds) ∷ []))
 
 -- the typed statements of items after these names, with one list of spots an item
-abbrev pub statements : List Named → List (List Spot) → List Item → List Stmt
+abbrev pub statements : List Named → List (List Spot) → List Item → List TStmt
 statements ds spots [] = []
 statements ds spots (i ∷ is) = statement ds (first_of spots) i ∷ statements (ds ++ declared_by i) (drop 1 spots) is
 
@@ -175,7 +175,7 @@ all_declared [] = []
 all_declared (i ∷ is) = declared_by i ++ all_declared is
 
 -- the one function of a program
-abbrev pub main_with : List SlotType → List Stmt → TypedFunction
+abbrev pub main_with : List SlotType → List TStmt → TypedFunction
 main_with slots body = record { name = codes "oc_main"; result = Nothing; params = 0; slots = slots; obliv = false; body = body }
 
 -- the typed `oc_main` whose body is these items, with a variable for each name that they declare

@@ -11,8 +11,8 @@ ghost use Rattle.first_form.specs.Reading.{PartyRead, FeedRead, FieldRead, Revea
 use crate::node::{
     SourceName, addressed, is_number, is_text, named, one_argument, three_arguments, two_arguments,
 };
-use oc_source::parsed::{BaseKind, Declared, Expr, FieldDef, Stmt, StmtNode};
 use oc_source::Spot;
+use oc_source::parsed::{BaseKind, Declared, Expr, FieldDef, Stmt, StmtNode};
 use oc_values::IntKind;
 
 /// What a print writes: a number and the end of its line.

@@ -10,8 +10,8 @@ ghost use Rattle.first_form.specs.Trees.{name_at, call};
 ghost use Rattle.first_form.specs.Reading.{IsNumber, source_name};
 
 use crate::name::same;
-use oc_source::parsed::{Expr, ExprNode, UnaryOp};
 use oc_source::Spot;
+use oc_source::parsed::{Expr, ExprNode, UnaryOp};
 use oc_values::IntKind;
 
 /// A name that a node holds, with its spot.

@@ -2,7 +2,7 @@
 
 ghost use Rattle.std.specs.Prelude.{◌≡◌, [], ◌∷◌, List, map, IfOk, IfSome, IfNone, MatchOption};
 ghost use Rattle.oc_source.specs.declared.spot.Spot.{Spot};
-ghost use Rattle.oc_source.specs.declared.parsed.Stmt.{Stmt as ParsedStmt};
+ghost use Rattle.oc_source.specs.declared.parsed.Stmt.{Stmt};
 ghost use Rattle.oc_tree.specs.declared.program.Typed.{Typed};
 ghost use Rattle.first_form.specs.Trees.{slot_type, function_with, main_with};
 ghost use Rattle.first_form.specs.Scope.{named};
@@ -13,9 +13,9 @@ use crate::item::item;
 use crate::name::same;
 use crate::scope::{DeclaredName, declare};
 use crate::tree::{slot_type, statement};
-use oc_source::parsed::{self, Function, Program};
 use oc_cells::{CType, SlotType};
-use oc_tree::{Stmt, Typed, TypedFunction};
+use oc_source::parsed::{self, Function, Program};
+use oc_tree::{TStmt, Typed, TypedFunction};
 use oc_values::{Items, Name, NoMemory};
 use std::alloc::Global;
 
@@ -26,12 +26,12 @@ const MAX_ITEMS: usize = 100;
 #[derive(Debug, Drop)]
 pub struct Body {
     pub slots: Items<SlotType>,
-    pub statements: Items<Stmt>,
+    pub statements: Items<TStmt>,
 }
 
 /// The body of a function that is `void oc_main(void)`.
 fn body_of(function: &Function) -> Option<&[parsed::Stmt]>
-    ensures { MatchOption result ((p : Spot) (body : List ParsedStmt) → function.now ≡ function_with p body → ⊥) (λ body. function.now ≡ function_with function.now.spot body.now) }
+    ensures { MatchOption result ((p : Spot) (body : List Stmt) → function.now ≡ function_with p body → ⊥) (λ body. function.now ≡ function_with function.now.spot body.now) }
 {
     if function.obliv
         || function.result.is_some()
@@ -48,7 +48,7 @@ fn body_of(function: &Function) -> Option<&[parsed::Stmt]>
 
 /// The statements of a program of one function and no struct.
 fn main_body(program: &Program) -> Option<&[parsed::Stmt]>
-    ensures { MatchOption result ((body : List ParsedStmt) → IsMain program.now body → ⊥) (λ body. IsMain program.now body.now) }
+    ensures { MatchOption result ((body : List Stmt) → IsMain program.now body → ⊥) (λ body. IsMain program.now body.now) }
 {
     if !program.structs.is_empty() || program.functions.len() != 1 {
         return None;
@@ -72,7 +72,7 @@ fn next_statement<'s>(
     alloc: Global,
     names: &mut Vec<DeclaredName<'s>>,
     stmt: &'s parsed::Stmt,
-) -> Result<Option<Stmt>, NoMemory>
+) -> Result<Option<TStmt>, NoMemory>
     ensures { IfOk result (λ read. MatchOption read (NoNext (map named names.old.items) stmt.now)
         (λ t. IsNext (map named names.old.items) (map named names.new.items) stmt.now t)) }
 {

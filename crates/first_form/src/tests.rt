@@ -4,8 +4,7 @@ use oc_source::parsed::{
     Stmt, StmtNode, StructDef, TypeName, UnaryOp,
 };
 use oc_source::{Literal, Spot};
-use oc_values::IntKind;
-use oc_values::{BinaryOp, Boxed, Items, Name, NoMemory};
+use oc_values::{BinaryOp, Boxed, IntKind, Items, Name, NoMemory};
 use std::alloc::Global;
 use std::test::*;
 

@@ -3,8 +3,8 @@
 ghost use Rattle.std.specs.Prelude.{◌≡◌, true, false, [], ◌∷◌, map, length, Some, None, IfOk, MatchOption, pos};
 ghost use Rattle.oc_cells.specs.declared.types.CType.{Pointer};
 ghost use Rattle.oc_tree.specs.declared.typed.TExpr.{TExpr};
-ghost use Rattle.oc_tree.specs.declared.typed.Stmt.{Stmt};
-ghost use Rattle.oc_tree.specs.declared.typed.ExprNode.{AddressOf, Binary};
+ghost use Rattle.oc_tree.specs.declared.typed.TStmt.{TStmt};
+ghost use Rattle.oc_tree.specs.declared.typed.TExprNode.{AddressOf, Binary};
 ghost use Rattle.first_form.specs.Trees.{slot_of, int_type, variable, reading, fed, pointing, declaring, calling, slot_type};
 ghost use Rattle.oc_source.specs.declared.parsed.Expr.{Expr};
 ghost use Rattle.first_form.specs.Items.{is_plus_or_minus};
@@ -13,12 +13,13 @@ ghost use Rattle.first_form.specs.Scope.{named as declared_name, Reads, HiddenRe
 use crate::item::{SourceFeed, SourceItem, SourceReveal};
 use crate::node::{SourceName, named};
 use crate::scope::{DeclaredName, is_known, is_new, slot_of};
-use oc_source::parsed::Expr;
 use oc_cells::{CType, SlotType};
-use oc_source::Spot;
-use oc_source::parsed;
-use oc_tree::{Builtin, Declared, ExprNode, PlaceNode, PrintPiece, Stmt, StmtNode, TExpr, TPlace};
-use oc_values::{BinaryOp, Boxed, IntKind, Items, Name, NoMemory};
+use oc_source::parsed::Expr;
+use oc_source::{Spot, parsed};
+use oc_tree::{
+    Builtin, PlaceNode, PrintPiece, TDeclared, TExpr, TExprNode, TPlace, TStmt, TStmtNode,
+};
+use oc_values::{BinaryOp, Boxed, IntKind, Items, Name, NoMemory, Shared};
 use std::alloc::Global;
 
 /// How many names a sum has at most.
@@ -77,7 +78,7 @@ fn reading(spot: Spot, hidden: bool, slot: u64) -> TExpr
     TExpr {
         spot,
         ty: int_type(hidden),
-        node: ExprNode::Read(variable(spot, hidden, slot)),
+        node: TExprNode::Read(variable(spot, hidden, slot)),
     }
 }
 
@@ -94,7 +95,7 @@ fn joined(
     Ok(TExpr {
         spot,
         ty: int_type(true),
-        node: ExprNode::Binary {
+        node: TExprNode::Binary {
             op,
             left: Boxed::new(alloc, left)?,
             right: Boxed::new(alloc, right)?,
@@ -172,7 +173,7 @@ fn fed(alloc: Global, feed: &SourceFeed) -> Result<TExpr, NoMemory>
     let index = TExpr {
         spot: feed.index,
         ty: int_type(false),
-        node: ExprNode::Number(0),
+        node: TExprNode::Number(0),
     };
     let word = TExpr {
         spot: feed.word,
@@ -180,7 +181,7 @@ fn fed(alloc: Global, feed: &SourceFeed) -> Result<TExpr, NoMemory>
             kind: IntKind::I64,
             obliv: false,
         },
-        node: ExprNode::Builtin {
+        node: TExprNode::Builtin {
             which: Builtin::Private,
             args: one(alloc, index)?,
         },
@@ -188,7 +189,7 @@ fn fed(alloc: Global, feed: &SourceFeed) -> Result<TExpr, NoMemory>
     Ok(TExpr {
         spot: feed.call,
         ty: int_type(true),
-        node: ExprNode::Builtin {
+        node: TExprNode::Builtin {
             which: Builtin::Feed {
                 kind: IntKind::I32,
                 party: feed.party,
@@ -206,9 +207,9 @@ fn pointing(alloc: Global, spot: Spot, name: Spot, slot: u64) -> Result<TExpr, N
         spot,
         ty: CType::Pointer {
             frozen: false,
-            to: Boxed::new(alloc, int_type(false))?,
+            to: Shared::new(alloc, int_type(false))?,
         },
-        node: ExprNode::AddressOf(variable(name, false, slot)),
+        node: TExprNode::AddressOf(variable(name, false, slot)),
     })
 }
 
@@ -218,26 +219,26 @@ fn declaring(
     name: Spot,
     slot: u64,
     init: Option<TExpr>,
-) -> Result<Stmt, NoMemory>
+) -> Result<TStmt, NoMemory>
     ensures { IfOk result (λ s. s ≡ declaring spot name slot init) }
 {
-    let declared = Declared {
+    let declared = TDeclared {
         spot: name,
         slot,
         init,
     };
-    Ok(Stmt {
+    Ok(TStmt {
         spot,
-        node: StmtNode::Declare(one(alloc, declared)?),
+        node: TStmtNode::Declare(one(alloc, declared)?),
     })
 }
 
-fn calling(spot: Spot, call: Spot, node: ExprNode) -> Stmt
+fn calling(spot: Spot, call: Spot, node: TExprNode) -> TStmt
     ensures { result ≡ calling spot call node }
 {
-    Stmt {
+    TStmt {
         spot,
-        node: StmtNode::Express(TExpr {
+        node: TStmtNode::Express(TExpr {
             spot: call,
             ty: CType::Nothing,
             node,
@@ -252,8 +253,8 @@ fn feeds(
     spot: Spot,
     name: &SourceName<'_>,
     feed: &SourceFeed,
-) -> Result<Option<Stmt>, NoMemory>
-    ensures { IfOk result (λ read. MatchOption read ((t : Stmt) → Builds (map declared_name names.now) spot (SourceItem.Feeds name.now feed.now) t → ⊥) (λ t. Builds (map declared_name names.now) spot (SourceItem.Feeds name.now feed.now) t)) }
+) -> Result<Option<TStmt>, NoMemory>
+    ensures { IfOk result (λ read. MatchOption read ((t : TStmt) → Builds (map declared_name names.now) spot (SourceItem.Feeds name.now feed.now) t → ⊥) (λ t. Builds (map declared_name names.now) spot (SourceItem.Feeds name.now feed.now) t)) }
 {
     if !is_new(names, name.text) {
         return Ok(None);
@@ -269,8 +270,8 @@ fn declares(
     names: &[DeclaredName<'_>],
     spot: Spot,
     name: &SourceName<'_>,
-) -> Result<Option<Stmt>, NoMemory>
-    ensures { IfOk result (λ read. MatchOption read ((t : Stmt) → Builds (map declared_name names.now) spot (SourceItem.Declares name.now) t → ⊥) (λ t. Builds (map declared_name names.now) spot (SourceItem.Declares name.now) t)) }
+) -> Result<Option<TStmt>, NoMemory>
+    ensures { IfOk result (λ read. MatchOption read ((t : TStmt) → Builds (map declared_name names.now) spot (SourceItem.Declares name.now) t → ⊥) (λ t. Builds (map declared_name names.now) spot (SourceItem.Declares name.now) t)) }
 {
     if !is_new(names, name.text) {
         return Ok(None);
@@ -285,8 +286,8 @@ fn reveals(
     names: &[DeclaredName<'_>],
     spot: Spot,
     reveal: &SourceReveal<'_>,
-) -> Result<Option<Stmt>, NoMemory>
-    ensures { IfOk result (λ read. MatchOption read ((t : Stmt) → Builds (map declared_name names.now) spot (SourceItem.Reveals reveal.now) t → ⊥) (λ t. Builds (map declared_name names.now) spot (SourceItem.Reveals reveal.now) t)) }
+) -> Result<Option<TStmt>, NoMemory>
+    ensures { IfOk result (λ read. MatchOption read ((t : TStmt) → Builds (map declared_name names.now) spot (SourceItem.Reveals reveal.now) t → ⊥) (λ t. Builds (map declared_name names.now) spot (SourceItem.Reveals reveal.now) t)) }
 {
     let target = &reveal.target;
     if !is_known(names, false, target.text) {
@@ -297,7 +298,7 @@ fn reveals(
     };
     let slot = slot_of(names, target.text);
     let target = pointing(alloc, reveal.address, target.spot, slot)?;
-    let node = ExprNode::Builtin {
+    let node = TExprNode::Builtin {
         which: Builtin::Reveal { kind: IntKind::I32 },
         args: two(alloc, target, sum)?,
     };
@@ -311,15 +312,15 @@ fn prints(
     spot: Spot,
     call: Spot,
     name: &SourceName<'_>,
-) -> Result<Option<Stmt>, NoMemory>
-    ensures { IfOk result (λ read. MatchOption read ((t : Stmt) → Builds (map declared_name names.now) spot (SourceItem.Prints call name.now) t → ⊥) (λ t. Builds (map declared_name names.now) spot (SourceItem.Prints call name.now) t)) }
+) -> Result<Option<TStmt>, NoMemory>
+    ensures { IfOk result (λ read. MatchOption read ((t : TStmt) → Builds (map declared_name names.now) spot (SourceItem.Prints call name.now) t → ⊥) (λ t. Builds (map declared_name names.now) spot (SourceItem.Prints call name.now) t)) }
 {
     if !is_known(names, false, name.text) {
         return Ok(None);
     }
     let shown = reading(name.spot, false, slot_of(names, name.text));
     let end = PrintPiece::Text(Name::from_bytes(alloc, b"\n")?);
-    let node = ExprNode::Builtin {
+    let node = TExprNode::Builtin {
         which: Builtin::Print {
             pieces: two(alloc, PrintPiece::Decimal, end)?,
         },
@@ -335,8 +336,8 @@ pub fn statement(
     names: &[DeclaredName<'_>],
     spot: Spot,
     item: &SourceItem<'_>,
-) -> Result<Option<Stmt>, NoMemory>
-    ensures { IfOk result (λ read. MatchOption read ((t : Stmt) → Builds (map declared_name names.now) spot item.now t → ⊥) (λ t. Builds (map declared_name names.now) spot item.now t)) }
+) -> Result<Option<TStmt>, NoMemory>
+    ensures { IfOk result (λ read. MatchOption read ((t : TStmt) → Builds (map declared_name names.now) spot item.now t → ⊥) (λ t. Builds (map declared_name names.now) spot item.now t)) }
 {
     match item {
         SourceItem::Feeds { name, feed } => feeds(alloc, names, spot, name, feed),

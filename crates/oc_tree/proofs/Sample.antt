@@ -7,12 +7,12 @@ use Rattle.oc_values.specs.declared.integers.BinaryOp.TheVariants.{Add}
 use Rattle.oc_source.specs.declared.spot.Spot.{Spot}
 use Rattle.oc_cells.specs.declared.types.CType.{CType, Int, Pointer', Nothing, more_of-CType, end_of-CType}
 use Rattle.oc_tree.specs.declared.typed.TExpr.{TExpr}
-use Rattle.oc_tree.specs.declared.typed.ExprNode.{Number, Read', AddressOf', Binary', Builtin', Row_of-TExpr, end_of-TExpr, more_of-TExpr}
+use Rattle.oc_tree.specs.declared.typed.TExprNode.{Number, Read', AddressOf', Binary', Builtin', Row_of-TExpr, end_of-TExpr, more_of-TExpr}
 use Rattle.oc_tree.specs.declared.typed.PlaceNode.{Slot}
 use Rattle.oc_tree.specs.declared.typed.Builtin.TheVariants.{Private, Feed, Reveal, Print}
 use Rattle.oc_tree.specs.declared.typed.PrintPiece.TheVariants.{Text, Decimal}
-use Rattle.oc_tree.specs.declared.typed.Stmt.{Stmt}
-use Rattle.oc_tree.specs.declared.typed.StmtNode.TheVariants.{Declare, Express}
+use Rattle.oc_tree.specs.declared.typed.TStmt.{TStmt}
+use Rattle.oc_tree.specs.declared.typed.TStmtNode.TheVariants.{Declare, Express}
 use Rattle.oc_tree.specs.declared.typed.TypedFunction.{TypedFunction}
 use Rattle.oc_tree.specs.declared.run.ShownItem.TheVariants.{Print as Printed, Reveal as Revealed}
 use Rattle.oc_tree.specs.declared.outcome.Outcome.TheVariants.{Done, Trap}
@@ -39,10 +39,10 @@ feeding k party = record { spot = p k; ty = hidden; node = Builtin' (Feed I32 pa
 abbrev reading : ℕ → ℕ → Row_of-TExpr 1
 reading k n = more_of-TExpr (p k) hidden (Read' (p k) hidden (Slot n)) end_of-TExpr
 
-abbrev declaring : ℕ → ℕ → Option TExpr → Stmt
+abbrev declaring : ℕ → ℕ → Option TExpr → TStmt
 declaring k n e = record { spot = p k; node = Declare (record { spot = p k; slot = n; init = e } ∷ []) }
 
-abbrev body : List Stmt
+abbrev body : List TStmt
 body =
     declaring 10 0 (Some (feeding 20 1)) ∷ declaring 30 1 (Some (feeding 40 2)) ∷ declaring 50 2 None
     ∷ record { spot = p 60; node = Express (record { spot = p 60; ty = Nothing; node = Builtin' (Reveal I32) (tt ∷ tt ∷ []) (more_of-TExpr (p 61) (Pointer' false _ (more_of-CType public end_of-CType)) (AddressOf' (p 62) public (Slot 2)) (more_of-TExpr (p 63) hidden (Binary' Add _ (reading 63 0) _ (reading 64 1)) end_of-TExpr)) }) }

@@ -9,17 +9,18 @@ use Rattle.oc_values.specs.Integers.{is_signed, width, is_in_bits}
 use Rattle.oc_cells.specs.declared.types.CType.{CType, Int, Pointer', Nothing, more_of-CType, end_of-CType}
 use Rattle.oc_cells.specs.declared.types.SlotType.{SlotType}
 use Rattle.oc_tree.specs.declared.typed.TExpr.{TExpr}
-use Rattle.oc_tree.specs.declared.typed.ExprNode.{ExprNode, Number, Read', AddressOf', Binary', Builtin', Row_of-TExpr, end_of-TExpr, more_of-TExpr}
+use Rattle.oc_tree.specs.declared.typed.TExprNode.{TExprNode, Number, Read', AddressOf', Binary', Builtin', Row_of-TExpr, end_of-TExpr, more_of-TExpr}
 use Rattle.oc_tree.specs.declared.typed.PlaceNode.{PlaceNode, Slot, Deref'}
 use Rattle.oc_tree.specs.declared.typed.Builtin.TheVariants.{Private, Feed, Reveal, Print}
 use Rattle.oc_tree.specs.declared.typed.PrintPiece.{PrintPiece}
 use Rattle.oc_tree.specs.declared.typed.PrintPiece.TheVariants.{Text, Decimal}
-use Rattle.oc_tree.specs.declared.typed.Declared.{Declared}
-use Rattle.oc_tree.specs.declared.typed.Stmt.{Stmt}
-use Rattle.oc_tree.specs.declared.typed.StmtNode.{StmtNode}
-use Rattle.oc_tree.specs.declared.typed.StmtNode.TheVariants.{Declare, Express}
+use Rattle.oc_tree.specs.declared.typed.TDeclared.{TDeclared}
+use Rattle.oc_tree.specs.declared.typed.TStmt.{TStmt}
+use Rattle.oc_tree.specs.declared.typed.TStmtNode.{TStmtNode}
+use Rattle.oc_tree.specs.declared.typed.TStmtNode.TheVariants.{Declare, Express}
 use Rattle.oc_tree.specs.declared.typed.TypedFunction.{TypedFunction}
-use Rattle.oc_cells.specs.Types.{same, same_row, same_kind}
+use Rattle.oc_cells.specs.Types.{same, same_row}
+use Rattle.oc_values.specs.Kinds.{same_kind}
 
 -- what an operator takes after promotion: 32 or 64 bits
 abbrev pub is_promoted : IntKind → Bool
@@ -63,7 +64,7 @@ type_of end_of-TExpr = Nothing
 
 abbrev mutual
   -- an expression of this type, where these slots are visible
-  pub typed_expr : List SlotType → CType → ExprNode → Bool
+  pub typed_expr : List SlotType → CType → TExprNode → Bool
   typed_expr ss (Int k o) (Number n) = not o && is_in_bits (is_signed k) (width k) n
   typed_expr ss t (Read' q u c) = has_values t && same true t u && typed_place ss u c
   typed_expr ss t (AddressOf' q u c) = points_to t u && typed_place ss u c
@@ -118,22 +119,22 @@ typed_start ss (Some s) None = has_values s.ty
 typed_start ss (Some s) (Some e) = has_values s.ty && same true s.ty e.ty && typed_expr ss e.ty e.node
 
 -- the declared names take the next slots, and each is visible in its own initialiser
-abbrev pub typed_names : List SlotType → ℕ → List Declared → Bool
+abbrev pub typed_names : List SlotType → ℕ → List TDeclared → Bool
 typed_names ss n [] = true
 typed_names ss n (d ∷ ds) = nat_eq d.slot n && typed_start (take (n + 1) ss) (slice_get ss n) d.init && typed_names ss (n + 1) ds
 
 -- a well typed statement, before which n slots are taken, and whose names take the next ones
-abbrev pub typed_node : List SlotType → ℕ → StmtNode → Bool
+abbrev pub typed_node : List SlotType → ℕ → TStmtNode → Bool
 typed_node ss n (Declare ds) = typed_names ss n ds
 typed_node ss n (Express e) = typed_expr (take n ss) e.ty e.node
 
 -- how many names a statement declares
-abbrev pub names_of : StmtNode → ℕ
+abbrev pub names_of : TStmtNode → ℕ
 names_of (Declare ds) = length ds
 names_of (Express e) = 0
 
 -- the statements of a body, before which n slots are taken
-abbrev pub typed_body : List SlotType → ℕ → List Stmt → Bool
+abbrev pub typed_body : List SlotType → ℕ → List TStmt → Bool
 typed_body ss n [] = nat_eq n (length ss)
 typed_body ss n (s ∷ more) = typed_node ss n s.node && typed_body ss (n + names_of s.node) more
 

@@ -15,19 +15,19 @@ use Rattle.oc_cells.specs.declared.memory.CellValue.TheVariants.{Int as CellInt}
 use Rattle.oc_tree.specs.declared.run.Value.{Value}
 use Rattle.oc_tree.specs.declared.run.Value.TheVariants.{Int, Pointer, Hidden, Nothing}
 use Rattle.oc_tree.specs.declared.run.Source.{Source}
-use Rattle.oc_tree.specs.declared.run.Source.TheVariants.{Word, Shared}
+use Rattle.oc_tree.specs.declared.run.Source.TheVariants.{Word, Public}
 use Rattle.oc_tree.specs.declared.run.Flow.{Flow}
 use Rattle.oc_tree.specs.declared.run.Flow.TheVariants.{Next}
 use Rattle.oc_cells.specs.declared.trap.TrapKind.TheVariants.{I1, M2}
 use Rattle.oc_tree.specs.declared.typed.TExpr.{TExpr}
-use Rattle.oc_tree.specs.declared.typed.ExprNode.{ExprNode, Number, Read', AddressOf', Binary', Builtin', Row_of-TExpr, end_of-TExpr, more_of-TExpr}
+use Rattle.oc_tree.specs.declared.typed.TExprNode.{TExprNode, Number, Read', AddressOf', Binary', Builtin', Row_of-TExpr, end_of-TExpr, more_of-TExpr}
 use Rattle.oc_tree.specs.declared.typed.PlaceNode.{PlaceNode, Slot, Deref'}
 use Rattle.oc_tree.specs.declared.typed.Builtin.{Builtin}
 use Rattle.oc_tree.specs.declared.typed.Builtin.TheVariants.{Private, Feed, Reveal, Print}
-use Rattle.oc_tree.specs.declared.typed.Declared.{Declared}
-use Rattle.oc_tree.specs.declared.typed.Stmt.{Stmt}
-use Rattle.oc_tree.specs.declared.typed.StmtNode.{StmtNode}
-use Rattle.oc_tree.specs.declared.typed.StmtNode.TheVariants.{Declare, Express}
+use Rattle.oc_tree.specs.declared.typed.TDeclared.{TDeclared}
+use Rattle.oc_tree.specs.declared.typed.TStmt.{TStmt}
+use Rattle.oc_tree.specs.declared.typed.TStmtNode.{TStmtNode}
+use Rattle.oc_tree.specs.declared.typed.TStmtNode.TheVariants.{Declare, Express}
 use Rattle.oc_tree.specs.declared.typed.TypedFunction.{TypedFunction}
 use Rattle.oc_tree.specs.declared.program.Typed.{Typed}
 use Rattle.oc_cells.specs.Layout.{leaves}
@@ -53,14 +53,14 @@ cost (suc zero) k = 0
 cost _ k = width k
 
 -- what an argument is to a feed
-abbrev pub source_at : Spot → ExprNode → Source
+abbrev pub source_at : Spot → TExprNode → Source
 source_at q (Builtin' Private _ es) = Word q
-source_at q _ = Shared
+source_at q _ = Public
 
 -- what the first argument is to a feed
 abbrev pub source_of : {m : _} → Row_of-TExpr m → Source
 source_of (more_of-TExpr q u c rest) = source_at q c
-source_of end_of-TExpr = Shared
+source_of end_of-TExpr = Public
 
 module _ (D : Domain) where
   -- the value of an expression, with the domain's hidden values
@@ -113,7 +113,7 @@ module _ (D : Domain) where
   -- the hidden value that a feed gives: the private word at this index, or the value that both parties know
   abbrev pub feeds : Known → Spot → Source → ℕ → IntKind → V → Act M V
   feeds known p (Word q) party k (Int l i) = word known q party k i
-  feeds known p Shared party k (Hidden l h) = pure (Hidden k h)
+  feeds known p Public party k (Hidden l h) = pure (Hidden k h)
   feeds known p _ party k _ = wrong p
 
   -- a value is shown before it is written, and a trap of the write has the spot of the call
@@ -137,7 +137,7 @@ module _ (D : Domain) where
 
   abbrev mutual
     -- the value of an expression of this type
-    pub expr : Around → Spot → CType → ExprNode → A V
+    pub expr : Around → Spot → CType → TExprNode → A V
     expr w p t (Number n) = constant p t n
     expr w p t (Read' q u c) = bind (place (deeper w) q u c) (λ a. still (reads q u a))
     expr w p t (AddressOf' q u c) = bind (place (deeper w) q u c) (λ a. pure (Pointer a))
@@ -179,22 +179,22 @@ module _ (D : Domain) where
   opens p ty n = bind (still (makes (λ k. D.known k (pos 0)) p (leaves [] ty))) (λ b. bind (enter n b) (λ _. pure b))
 
   -- a variable and its initialiser, in which its own name is visible
-  abbrev pub declares : Around → Declared → A (Unit {0})
+  abbrev pub declares : Around → TDeclared → A (Unit {0})
   declares w d =
       typed_slot d.spot (slice_get w.slots d.slot) (λ t. bind (opens d.spot t.ty d.slot) (λ b. started w t.ty b d.init))
 
   -- the variables of one declaration, in order
-  abbrev pub declares_all : Around → List Declared → A Flow
+  abbrev pub declares_all : Around → List TDeclared → A Flow
   declares_all w [] = pure Next
   declares_all w (d ∷ ds) = bind (declares w d) (λ _. declares_all w ds)
 
   -- a statement without its step
-  abbrev pub node : Around → StmtNode → A Flow
+  abbrev pub node : Around → TStmtNode → A Flow
   node w (Declare ds) = declares_all w ds
   node w (Express e) = bind (whole w e) (λ _. pure Next)
 
   -- a statement with its step
-  abbrev pub stepped : Around → Stmt → A Flow
+  abbrev pub stepped : Around → TStmt → A Flow
   stepped w s = bind step (λ _. node (deeper w) s.node)
 
   -- what is walked after a statement that goes on so
@@ -202,7 +202,7 @@ module _ (D : Domain) where
   proceed Next m = m
 
   -- a function's own body
-  abbrev pub listed : Around → List Stmt → A Flow
+  abbrev pub listed : Around → List TStmt → A Flow
   listed w [] = pure Next
   listed w (s ∷ ss) = bind (stepped w s) (λ f. proceed f (listed w ss))
 

@@ -19,12 +19,12 @@ pub use oc_cells::{
 };
 pub use oc_source::{Literal, Spot, parsed};
 pub use oc_values::{
-    BinaryOp, Boxed, IntKind, Items, Name, NoMemory, ZeroDivisor, convert, public_op, wrap,
+    BinaryOp, Boxed, IntKind, Items, Name, NoMemory, Shared, ZeroDivisor, convert, public_op, wrap,
 };
 pub use outcome::Outcome;
 pub use program::Typed;
 pub use run::{ClearSetup, Flow, Named, ShownItem, Source, Value};
 pub use typed::{
-    Builtin, Declared, ExprNode, PlaceNode, PrintPiece, Stmt, StmtNode, TExpr, TPlace,
+    Builtin, PlaceNode, PrintPiece, TDeclared, TExpr, TExprNode, TPlace, TStmt, TStmtNode,
     TypedFunction,
 };

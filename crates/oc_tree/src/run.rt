@@ -28,8 +28,8 @@ pub enum Flow {
 pub enum Source {
     /// A private word, with the spot of its `ocPrivate`.
     Word(Spot),
-    /// A value that is known to both parties.
-    Shared,
+    /// A value that both parties know.
+    Public,
 }
 
 /// A slot that a call entered, with the number of its block.

@@ -10,13 +10,13 @@ use oc_values::{BinaryOp, Boxed, IntKind, Items, Name};
 pub struct TExpr {
     pub spot: Spot,
     pub ty: CType,
-    pub node: ExprNode,
+    pub node: TExprNode,
 }
 
 /// What an expression is, with its parts.
 #[cycle(tree)]
 #[derive(Debug, Drop)]
-pub enum ExprNode {
+pub enum TExprNode {
     /// A value of the kind of its type.
     Number(i128),
     /// What a place holds.
@@ -78,7 +78,7 @@ pub enum PrintPiece {
 
 /// A variable that a declaration makes, with the spot of its name.
 #[derive(Debug, Drop)]
-pub struct Declared {
+pub struct TDeclared {
     pub spot: Spot,
     pub slot: u64,
     pub init: Option<TExpr>,
@@ -86,15 +86,15 @@ pub struct Declared {
 
 /// A statement.
 #[derive(Debug, Drop)]
-pub struct Stmt {
+pub struct TStmt {
     pub spot: Spot,
-    pub node: StmtNode,
+    pub node: TStmtNode,
 }
 
 /// What a statement is, with its parts.
 #[derive(Debug, Drop)]
-pub enum StmtNode {
-    Declare(Items<Declared>),
+pub enum TStmtNode {
+    Declare(Items<TDeclared>),
     Express(TExpr),
 }
 
@@ -107,5 +107,5 @@ pub struct TypedFunction {
     pub params: u64,
     pub slots: Items<SlotType>,
     pub obliv: bool,
-    pub body: Items<Stmt>,
+    pub body: Items<TStmt>,
 }
