@@ -1,15 +1,13 @@
 -- A file without a form fault is the file of the half that is read of it, and no other half has this file; the file of
 -- a half has no form fault.
-use Rattle.std.proofs.Common.{ℕ, ◌+◌, ◌-◌, ◌*◌, ◌/◌, ◌%◌, ◌^◌, ◌≡◌, ◌<◌, ◌≤◌, Bool, true, false, cond, eqb, ltb, leb, List, [], ◌∷◌, ◌++◌, length, take, drop, map, get_or, Option, Some, None, refl, sym, ap, ◌∙◌, subst, arith, append_assoc, length-append}
-use Rattle.std.specs.Prelude.{not, ◌&&◌}
+use Rattle.std.proofs.Common.{ℕ, ◌+◌, ◌*◌, ◌≡◌, ◌<◌, ◌≤◌, Bool, true, false, cond, eqb, ltb, List, [], ◌∷◌, ◌++◌, length, take, drop, get_or, Option, Some, None, refl, sym, ap, ◌∙◌, subst, arith, append_assoc, length-append}
+use Rattle.std.specs.Prelude.{not}
 use Rattle.std.specs.Str.{bytes_eq}
-use Rattle.std.specs.List.{flat_map, AllByRecursion, range_with_len}
+use Rattle.std.specs.List.{flat_map, AllByRecursion}
 use Rattle.std.proofs.lemmas.Bool.{le-ltb}
-use Rattle.std.proofs.lemmas.Bool.Decides.{nat_tests}
 use Rattle.std.proofs.lemmas.Slice.Eq.{bytes_eq-Decides}
-use Rattle.std.proofs.lemmas.List.{take-append-drop, length-take, length-drop, get_or-drop, get_or-take, take_at, drop_at, drop-drop, get_or_append_left, flat_map_more, take_more}
+use Rattle.std.proofs.lemmas.List.{take-append-drop, length-take, length-drop, get_or-drop, take_at, drop_at, drop-drop, flat_map_more, take_more}
 use Rattle.std.proofs.Math.Seq.{drop-cons}
-use Rattle.std.proofs.lemmas.List.FromFn.{fill_by_all, length-map-range_with_len, get_or-map-range_with_len}
 use Rattle.dealt_transfer.specs.declared.half.SenderHalf.{SenderHalf}
 use Rattle.dealt_transfer.specs.Halves.{most_transfers, IsLabel, IsPair, Receiver}
 use Rattle.oc_values.specs.Packing.{byte_count, pack, unpack, padding_set}

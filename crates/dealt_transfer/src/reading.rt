@@ -15,8 +15,8 @@ use crate::form::{
     RECEIVER_COUNT_OFFSET, SENDER_COUNT_OFFSET, count_at, receiver_fault, sender_fault,
 };
 use crate::half::{ReceiverHalf, SenderHalf};
-use half_gates::Label;
 use byteorder::{ByteOrder, LittleEndian};
+use half_gates::Label;
 use oc_values::packing::{byte_count, unpack_bits};
 use oc_values::{Items, NoMemory};
 use std::alloc::Global;

@@ -6,8 +6,8 @@ ghost use Rattle.dealt_transfer.specs.Halves.{IsLabel, IsPair, most_transfers, r
 ghost use Rattle.dealt_transfer.specs.Files.{Half1, Half2, label_bytes, number_bytes, pair_bytes};
 
 use crate::half::{ReceiverHalf, SenderHalf};
-use half_gates::Label;
 use byteorder::{BigEndian, ByteOrder, LittleEndian};
+use half_gates::Label;
 use oc_values::packing::{byte_count, pack_bits};
 use oc_values::{Items, NoMemory};
 use std::alloc::Global;

@@ -6,7 +6,8 @@ ghost use Rattle.std.specs.Prelude.{◌≤◌};
 ghost use Rattle.dealt_transfer.specs.Halves.{most_transfers};
 
 use dealt_transfer::{
-    HalfFault, MOST_TRANSFERS, deal, read_receiver_half, read_sender_half, write_receiver_half, write_sender_half,
+    HalfFault, MOST_TRANSFERS, deal, read_receiver_half, read_sender_half, write_receiver_half,
+    write_sender_half,
 };
 use half_gates::{Label, eval_and, garble_and, hash_label};
 use oc_values::Items;
