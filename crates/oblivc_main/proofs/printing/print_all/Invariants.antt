@@ -6,6 +6,6 @@ use Rattle.oblivc_main.proofs.printing.print_all.Given as goal
 abbrev pub invariant-loop-item : goal.invariant-loop-item
 invariant-loop-item g l = record {
   within : l.item-index ≤ length l.items;
-  never_falls : g.S.Sink.faults l.initial.out ≤ g.S.Sink.faults l.out;
+  no_fault : g.S.Sink.faults l.out ≡ g.S.Sink.faults l.initial.out;
   written : g.S.Sink.written l.out ≡ appended (shown (take l.item-index l.items)) (g.S.Sink.written l.initial.out);
 }
