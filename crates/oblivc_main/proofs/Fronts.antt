@@ -7,8 +7,8 @@ use Rattle.oc_outside.specs.Told.{appended, appended-appended}
 use Rattle.oc_outside.specs.Sinks.{OnDone, OnEndFailed, UnlessDone}
 use Rattle.oc_outside.specs.declared.sinks.PutEnd.{PutEnd}
 use Rattle.oc_outside.specs.declared.sinks.PutEnd.TheVariants.{Done, Failed, NoMemory}
-use Rattle.oc_tree.specs.declared.run.ShownItem.{ShownItem}
-use Rattle.oc_tree.specs.Shown.{shown, shown_item}
+use Rattle.first_tree.specs.declared.run.ShownItem.{ShownItem}
+use Rattle.first_tree.specs.Shown.{shown, shown_item}
 use Rattle.oblivc_main.specs.Endings.{Printed}
 
 shown-append : (xs ys : List ShownItem) → shown (xs ++ ys) ≡ shown xs ++ shown ys

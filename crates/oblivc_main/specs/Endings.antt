@@ -4,12 +4,12 @@ use Rattle.oc_outside.specs.Counts.{Rose}
 use Rattle.oc_outside.specs.Told.{appended}
 use Rattle.oc_outside.specs.Sinks.{OnDone, OnEndFailed, UnlessDone, UnlessEndFailed}
 use Rattle.oc_outside.specs.declared.sinks.PutEnd.{PutEnd}
-use Rattle.oc_tree.specs.declared.run.ShownItem.{ShownItem}
-use Rattle.oc_tree.specs.declared.run.ClearSetup.{ClearSetup}
-use Rattle.oc_tree.specs.declared.outcome.Outcome.TheVariants.{Done}
-use Rattle.oc_tree.specs.declared.program.Typed.{Typed}
-use Rattle.oc_tree.specs.Clear.{Clear}
-use Rattle.oc_tree.specs.Shown.{shown}
+use Rattle.first_tree.specs.declared.run.ShownItem.{ShownItem}
+use Rattle.first_tree.specs.declared.run.ClearSetup.{ClearSetup}
+use Rattle.first_tree.specs.declared.outcome.Outcome.TheVariants.{Done}
+use Rattle.first_tree.specs.declared.program.Typed.{Typed}
+use Rattle.first_tree.specs.Clear.{Clear}
+use Rattle.first_tree.specs.Shown.{shown}
 use Rattle.clear_run.specs.declared.run.ClearRun.{ClearRun}
 use Rattle.dealt_transfer.specs.Halves.{most_transfers}
 use Rattle.oblivc_main.specs.Reading.{Told, Accepts, Refuses, HasWord, HasNoWord, Unreadable}

@@ -1,7 +1,7 @@
 //! The command `clear`.
 
 ghost use Rattle.std.specs.Prelude.{◌≡◌, ◌≤◌, [], ◌∷◌, IfOk};
-ghost use Rattle.oc_tree.specs.Clear.{Clear};
+ghost use Rattle.first_tree.specs.Clear.{Clear};
 ghost use Rattle.oblivc_main.specs.Endings.{Ends, Runs, setup_of};
 
 use crate::printing::print_all;
@@ -9,8 +9,8 @@ use crate::reading::{read_source, read_word};
 use crate::stop::{Stop, Which};
 use clear_run::{ClearRun, run_first};
 use dealt_transfer::MOST_TRANSFERS;
+use first_tree::{ClearSetup, Typed};
 use oc_outside::{PutEnd, Sink, Vault};
-use oc_tree::{ClearSetup, Typed};
 use oc_values::{Items, NoMemory};
 use std::alloc::Global;
 
