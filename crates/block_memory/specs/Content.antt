@@ -75,7 +75,8 @@ copies_of leaves (pos n) = repeated n leaves
 copies_of leaves (negsuc n) = []
 
 -- a live block with new cells of these leaves stands after the other blocks
-pub record AddsBlock {H : Type 0} (is_zero : IntKind → H → Type 0) (allocated : Bool) (leaves : List CType) (old new : Memory H) : Type 0 where
+pub record AddsBlock {H : Type 0} (is_zero : IntKind → H → Type 0) (allocated : Bool) (leaves : List CType) (old new : Memory H)
+    : Type 0 where
   pub cells : List (Cell H)
   pub blank : AreBlank is_zero leaves cells
   pub added : new ≡ record old { blocks = old.blocks ++ Live allocated cells ∷ [] }
