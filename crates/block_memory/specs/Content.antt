@@ -75,16 +75,20 @@ copies_of leaves (pos n) = repeated n leaves
 copies_of leaves (negsuc n) = []
 
 -- a live block with new cells of these leaves stands after the other blocks
-pub record AddsBlock {H : Type 0} (is_zero : IntKind → H → Type 0) (allocated : Bool) (leaves : List CType) (old new : Memory H) : Type 0 where
+pub record AddsBlock {H : Type 0} (is_zero : IntKind → H → Type 0) (allocated : Bool) (leaves : List CType) (old new : Memory H)
+    : Type 0 where
   pub cells : List (Cell H)
   pub blank : AreBlank is_zero leaves cells
   pub added : new ≡ record old { blocks = old.blocks ++ Live allocated cells ∷ [] }
 
 -- there is room, and the new block has the number of blocks before it; or none is made, as at want of memory
-abbrev pub Makes : {H : Type 0} → (IntKind → H → Type 0) → Bool → List CType → ℤ → Result ℕ MakeRefusal → Memory H → Memory H → Type 0
+abbrev pub Makes : {H : Type 0} → (IntKind → H → Type 0) → Bool → List CType → ℤ → Result ℕ MakeRefusal
+    → Memory H → Memory H → Type 0
 Makes is_zero allocated leaves count (Ok number) old new =
-    (number ≡ length old.blocks) × (has_room old (length leaves) count ≡ true) × AddsBlock is_zero allocated (copies_of leaves count) old new
-Makes is_zero allocated leaves count (Err (Trap kind)) old new = (kind ≡ M4) × (has_room old (length leaves) count ≡ false) × (new ≡ old)
+    (number ≡ length old.blocks) × (has_room old (length leaves) count ≡ true)
+    × AddsBlock is_zero allocated (copies_of leaves count) old new
+Makes is_zero allocated leaves count (Err (Trap kind)) old new =
+    (kind ≡ M4) × (has_room old (length leaves) count ≡ false) × (new ≡ old)
 Makes is_zero allocated leaves count (Err NoMemory) old new = new ≡ old
 
 -- a block is made as the meaning of memory answers, or none at want of memory
@@ -94,8 +98,10 @@ MakesBy r (Err (Trap kind)) old new = (r ≡ Err kind) × (new ≡ old)
 MakesBy r (Err NoMemory) old new = new ≡ old
 
 -- where each kind has this one zero, the memory's meaning of a new block with these zeros
-abbrev pub MakesExactly : {H : Type 0} → (IntKind → H → Type 0) → Bool → List CType → ℤ → Result ℕ MakeRefusal → Memory H → Memory H → Type 0
-MakesExactly {H} is_zero allocated leaves count result old new = (zero_of : IntKind → H) → ((k : IntKind) (h : H) → is_zero k h → h ≡ zero_of k)
+abbrev pub MakesExactly : {H : Type 0} → (IntKind → H → Type 0) → Bool → List CType → ℤ → Result ℕ MakeRefusal
+    → Memory H → Memory H → Type 0
+MakesExactly {H} is_zero allocated leaves count result old new =
+    (zero_of : IntKind → H) → ((k : IntKind) (h : H) → is_zero k h → h ≡ zero_of k)
     → MakesBy (make_copies zero_of old.limit allocated old.blocks leaves count) result old new
 
 -- each of these is an integer or pointer type, struct by struct

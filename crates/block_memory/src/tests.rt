@@ -55,6 +55,17 @@ const fn at(block: u64, offset: u32) -> Address {
     Address::At { block, offset }
 }
 
+/// A block of so many copies of a type, and the answer.
+fn check_make<'t, R: Abort>(
+    rt: &R,
+    blocks: &mut Blocks<'t, i128>,
+    (ty, count): (&'t CType, i128),
+    want: Result<u64, MakeRefusal>,
+) {
+    assert!(rt; blocks.has_size(ty));
+    assert!(rt; blocks.make_block(ty, count, true) == want);
+}
+
 /// An address, the leaf that is asked for, and the trap of a load if there is one.
 type Reading<'t> = (Address, &'t CType, Option<TrapKind>);
 
@@ -70,6 +81,15 @@ type Step = (Address, i128, u32, Result<Address, TrapKind>);
 fn check_offsets<R: Abort>(rt: &R, blocks: &Blocks<'_, i128>, rows: &[Step]) {
     for (place, amount, size, want) in rows {
         assert!(rt; blocks.offset(*place, *amount, *size) == *want);
+    }
+}
+
+/// Writes 1 to 5 into the first cells.
+fn fill<R: Abort>(rt: &R, blocks: &mut Blocks<'_, i128>) {
+    let hidden = HIDDEN;
+    for place in 0..5u32 {
+        let value = CellValue::Hidden(i128::from(place) + 1);
+        assert!(rt; blocks.store(at(0, place), &hidden, value) == Ok(()));
     }
 }
 
@@ -91,10 +111,9 @@ fn cells_and_traps(rt: HostRuntime) -> Result<(), Fail> {
     let pairs = array(alloc, 2, CType::Struct(0))?;
     let (plain, frozen) = (pointer(alloc, false)?, pointer(alloc, true)?);
     let mut blocks = Blocks::new(alloc, &structs, 65536)?;
-    for (number, ty) in [&pairs, &frozen, &int].into_iter().enumerate() {
-        assert!(rt; blocks.has_size(ty));
-        assert!(rt; blocks.make_block(ty, 1, true) == Ok(number as u64));
-    }
+    check_make(&rt, &mut blocks, (&pairs, 1), Ok(0));
+    check_make(&rt, &mut blocks, (&frozen, 1), Ok(1));
+    check_make(&rt, &mut blocks, (&int, 1), Ok(2));
     assert!(rt; blocks.free_block(at(2, 1)) == Err(TrapKind::M1));
     assert!(rt; blocks.free_block(at(2, 0)) == Ok(()));
     assert!(rt; blocks.free_block(at(2, 0)) == Err(TrapKind::M2));
@@ -127,13 +146,12 @@ fn steps_sizes_and_limits(rt: HostRuntime) -> Result<(), Fail> {
     let mut blocks = Blocks::new(alloc, &structs, 7)?;
     assert!(rt; blocks.size_of(&row) == 6);
     assert!(rt; blocks.size_of(&too_wide) == 0);
-    assert!(rt; blocks.has_size(&hidden));
     let refused = Err(MakeRefusal::Trap(TrapKind::M4));
     // A block without cells counts as one.
-    assert!(rt; blocks.make_block(&hidden, 6, false) == Ok(0));
-    assert!(rt; blocks.make_block(&hidden, 0, true) == Ok(1));
-    assert!(rt; blocks.make_block(&hidden, -1, true) == refused);
-    assert!(rt; blocks.make_block(&hidden, 1, true) == refused);
+    check_make(&rt, &mut blocks, (&hidden, 6), Ok(0));
+    check_make(&rt, &mut blocks, (&hidden, 0), Ok(1));
+    check_make(&rt, &mut blocks, (&hidden, -1), refused);
+    check_make(&rt, &mut blocks, (&hidden, 1), refused);
     let steps = [
         (at(0, 0), 3, 2, Ok(at(0, 6))),
         (at(0, 1), 3, 2, Err(TrapKind::M1)),
@@ -153,15 +171,11 @@ fn steps_sizes_and_limits(rt: HostRuntime) -> Result<(), Fail> {
 #[test]
 fn copies(rt: HostRuntime) -> Result<(), Fail> {
     let alloc = rt.alloc();
-    let (hidden, structs) = (HIDDEN, Items::new(alloc));
+    let structs = Items::new(alloc);
     let (three, five) = (array(alloc, 3, HIDDEN)?, array(alloc, 5, HIDDEN)?);
     let mut blocks = Blocks::new(alloc, &structs, 65536)?;
-    assert!(rt; blocks.has_size(&five));
-    assert!(rt; blocks.make_block(&five, 1, false) == Ok(0));
-    for place in 0..5u32 {
-        let value = CellValue::Hidden(i128::from(place) + 1);
-        assert!(rt; blocks.store(at(0, place), &hidden, value) == Ok(()));
-    }
+    check_make(&rt, &mut blocks, (&five, 1), Ok(0));
+    fill(&rt, &mut blocks);
     assert!(rt; blocks.has_size(&three));
     assert!(rt; matches!(blocks.leaf(&three, 2), Some(CType::Int { obliv: true, .. })));
     assert!(rt; blocks.leaf(&three, 3).is_none());

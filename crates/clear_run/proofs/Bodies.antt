@@ -1,19 +1,19 @@
 -- How the code's statements make a walk, where one of their parts stops.
 use Rattle.std.proofs.Common.{ℕ, suc, ◌+◌, ◌-◌, ◌≡◌, ◌<◌, length, get_or, drop, drop-cons, add-one, ℤ, List, ◌∷◌, Some, Result, Err, slice_get, sym, ap, ◌∙◌, subst}
-use Rattle.oc_tree.specs.declared.run.ClearSetup.{ClearSetup}
-use Rattle.oc_tree.specs.declared.run.Flow.{Flow}
-use Rattle.oc_tree.specs.declared.run.Flow.TheVariants.{Next}
+use Rattle.first_tree.specs.declared.run.ClearSetup.{ClearSetup}
+use Rattle.first_tree.specs.declared.run.Flow.{Flow}
+use Rattle.first_tree.specs.declared.run.Flow.TheVariants.{Next}
 use Rattle.oc_cells.specs.declared.memory.Address.TheVariants.{At}
 use Rattle.oc_cells.specs.declared.types.SlotType.{SlotType}
-use Rattle.oc_tree.specs.declared.typed.TExpr.{TExpr}
-use Rattle.oc_tree.specs.declared.typed.TDeclared.{TDeclared}
-use Rattle.oc_tree.specs.declared.typed.TStmt.{TStmt}
-use Rattle.oc_tree.specs.declared.typed.TStmtNode.TheVariants.{Express}
-use Rattle.oc_tree.specs.Walking.{Res, Go, bind, after, pure, still, step}
-use Rattle.oc_tree.specs.Values.{initializes}
-use Rattle.oc_tree.specs.Walk.{Around, deeper, whole, opens, typed_slot, started, declares, declares_all, node, stepped, proceed, listed}
-use Rattle.oc_tree.specs.Domain.{Domain}
-use Rattle.oc_tree.specs.Clear.{clear}
+use Rattle.first_tree.specs.declared.typed.TExpr.{TExpr}
+use Rattle.first_tree.specs.declared.typed.TDeclared.{TDeclared}
+use Rattle.first_tree.specs.declared.typed.TStmt.{TStmt}
+use Rattle.first_tree.specs.declared.typed.TStmtNode.TheVariants.{Express}
+use Rattle.first_tree.specs.Walking.{Res, Go, bind, after, pure, still, step}
+use Rattle.first_tree.specs.Values.{initializes}
+use Rattle.first_tree.specs.Walk.{Around, deeper, whole, opens, typed_slot, started, declares, declares_all, node, stepped, proceed, listed}
+use Rattle.first_tree.specs.Domain.{Domain}
+use Rattle.first_tree.specs.Clear.{clear}
 use Rattle.clear_run.specs.declared.machine.Machine.{Machine}
 use Rattle.clear_run.specs.declared.machine.Fault.{Fault}
 use Rattle.clear_run.specs.Runs.{ClearState, Does, RunsExpr, RunsDeclared, RunsDeclares, RunsStmt, RunsBody, Declaring, Passing, state, around}

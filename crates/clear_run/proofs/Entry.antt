@@ -1,18 +1,18 @@
 -- The end of a run from the function that a program starts with.
 use Rattle.std.proofs.Common.{ℤ, ◌≡◌, List, [], true, Result, Ok, Err, refl, subst}
-use Rattle.oc_tree.specs.declared.run.ClearSetup.{ClearSetup}
-use Rattle.oc_tree.specs.declared.run.ShownItem.{ShownItem}
-use Rattle.oc_tree.specs.declared.run.Named.{Named}
-use Rattle.oc_tree.specs.declared.run.Flow.{Flow}
-use Rattle.oc_tree.specs.declared.run.Flow.TheVariants.{Next}
+use Rattle.first_tree.specs.declared.run.ClearSetup.{ClearSetup}
+use Rattle.first_tree.specs.declared.run.ShownItem.{ShownItem}
+use Rattle.first_tree.specs.declared.run.Named.{Named}
+use Rattle.first_tree.specs.declared.run.Flow.{Flow}
+use Rattle.first_tree.specs.declared.run.Flow.TheVariants.{Next}
 use Rattle.oc_cells.specs.declared.memory.Block.{Block}
-use Rattle.oc_tree.specs.declared.outcome.Outcome.{Outcome}
-use Rattle.oc_tree.specs.declared.outcome.Outcome.TheVariants.{Done}
-use Rattle.oc_tree.specs.declared.typed.TStmt.{TStmt}
-use Rattle.oc_tree.specs.declared.typed.TypedFunction.{TypedFunction}
-use Rattle.oc_tree.specs.Walking.{Res, Go, Stop, Ended}
-use Rattle.oc_tree.specs.Walk.{invokes, finished, listed}
-use Rattle.oc_tree.specs.Clear.{IsEnd, clear, known_of}
+use Rattle.first_tree.specs.declared.outcome.Outcome.{Outcome}
+use Rattle.first_tree.specs.declared.outcome.Outcome.TheVariants.{Done}
+use Rattle.first_tree.specs.declared.typed.TStmt.{TStmt}
+use Rattle.first_tree.specs.declared.typed.TypedFunction.{TypedFunction}
+use Rattle.first_tree.specs.Walking.{Res, Go, Stop, Ended}
+use Rattle.first_tree.specs.Walk.{invokes, finished, listed}
+use Rattle.first_tree.specs.Clear.{IsEnd, clear, known_of}
 use Rattle.clear_run.specs.declared.machine.Machine.{Machine}
 use Rattle.clear_run.specs.declared.machine.Fault.{Fault}
 use Rattle.clear_run.specs.declared.machine.Fault.TheVariants.{Ended as Stopped}

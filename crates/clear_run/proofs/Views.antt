@@ -3,21 +3,21 @@ use Rattle.std.proofs.Common.{◌≡◌, List, [], ◌∷◌, refl, ap, ◌∙�
 use Rattle.oc_values.specs.declared.integers.BinaryOp.{BinaryOp}
 use Rattle.oc_source.specs.declared.spot.Spot.{Spot}
 use Rattle.oc_cells.specs.declared.types.CType.{CType}
-use Rattle.oc_tree.specs.declared.typed.TExpr.{TExpr}
-use Rattle.oc_tree.specs.declared.typed.TPlace.{TPlace}
-use Rattle.oc_tree.specs.declared.typed.Builtin.{Builtin}
-use Rattle.oc_tree.specs.declared.typed.TExprNode.{Read, AddressOf, Binary, Builtin as Call, Row_of-TExpr}
-use Rattle.oc_tree.specs.declared.typed.PlaceNode.TheBlock.{hidden-the_row-TExpr-0, hidden-the_row-TExpr-1, back-the_row-TExpr}
-use Rattle.oc_tree.specs.declared.typed.PlaceNode.{Deref}
+use Rattle.first_tree.specs.declared.typed.TExpr.{TExpr}
+use Rattle.first_tree.specs.declared.typed.TPlace.{TPlace}
+use Rattle.first_tree.specs.declared.typed.Builtin.{Builtin}
+use Rattle.first_tree.specs.declared.typed.TExprNode.{Read, AddressOf, Binary, Builtin as Call, Row_of-TExpr}
+use Rattle.first_tree.specs.declared.typed.PlaceNode.TheBlock.{hidden-the_row-TExpr-0, hidden-the_row-TExpr-1, back-the_row-TExpr}
+use Rattle.first_tree.specs.declared.typed.PlaceNode.{Deref}
 use denote.Hole.Carrier.{hidden}
 use mathlib.Core.Former.{this, list_count, children}
 use mathlib.Core.List.{map}
 use Rattle.sqlite_items.specs.formers.items.Items.{the_former}
-use Rattle.oc_tree.specs.Walking.{bind, pure, still}
-use Rattle.oc_tree.specs.Values.{reads, follows}
-use Rattle.oc_tree.specs.Domain.{Domain}
-use Rattle.oc_tree.specs.Walk.{Around, deeper, expr, place, exprs, whole, operates, performs, source_of}
-use Rattle.oc_tree.specs.declared.run.Value.TheVariants.{Pointer}
+use Rattle.first_tree.specs.Walking.{bind, pure, still}
+use Rattle.first_tree.specs.Values.{reads, follows}
+use Rattle.first_tree.specs.Domain.{Domain}
+use Rattle.first_tree.specs.Walk.{Around, deeper, expr, place, exprs, whole, operates, performs, source_of}
+use Rattle.first_tree.specs.declared.run.Value.TheVariants.{Pointer}
 use Rattle.clear_run.specs.Runs.{wholes, source_in}
 
 -- a list of arguments as the row that the tree keeps

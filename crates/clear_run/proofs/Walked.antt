@@ -1,20 +1,20 @@
 -- How the code's steps make a walk.
 use Rattle.std.proofs.Common.{ℕ, suc, ◌+◌, ◌-◌, ◌≡◌, ◌<◌, length, get_or, drop, drop-cons, add-one, ℤ, List, ◌∷◌, ◌++◌, Result, Ok, Err, refl, sym, ap, ◌∙◌, subst}
-use Rattle.oc_tree.specs.declared.run.ClearSetup.{ClearSetup}
-use Rattle.oc_tree.specs.declared.run.Value.{Value}
-use Rattle.oc_tree.specs.declared.run.Value.TheVariants.{Pointer}
-use Rattle.oc_tree.specs.Values.{reads}
+use Rattle.first_tree.specs.declared.run.ClearSetup.{ClearSetup}
+use Rattle.first_tree.specs.declared.run.Value.{Value}
+use Rattle.first_tree.specs.declared.run.Value.TheVariants.{Pointer}
+use Rattle.first_tree.specs.Values.{reads}
 use Rattle.clear_run.proofs.Views.{read_at, address_at, builtin_at}
 use Rattle.oc_cells.specs.declared.memory.Address.{Address}
-use Rattle.oc_tree.specs.declared.typed.TExpr.{TExpr}
-use Rattle.oc_tree.specs.declared.typed.TPlace.{TPlace}
-use Rattle.oc_tree.specs.declared.typed.TExprNode.{TExprNode, Read, AddressOf, Builtin as Call}
-use Rattle.oc_tree.specs.declared.typed.PlaceNode.{PlaceNode}
-use Rattle.oc_tree.specs.declared.typed.Builtin.{Builtin}
-use Rattle.oc_tree.specs.declared.run.Source.{Source}
-use Rattle.oc_tree.specs.Walking.{Res, Go, Act, bind, after, pure, still}
-use Rattle.oc_tree.specs.Walk.{Around, deeper, expr, place, whole, performs}
-use Rattle.oc_tree.specs.Clear.{clear, known_of}
+use Rattle.first_tree.specs.declared.typed.TExpr.{TExpr}
+use Rattle.first_tree.specs.declared.typed.TPlace.{TPlace}
+use Rattle.first_tree.specs.declared.typed.TExprNode.{TExprNode, Read, AddressOf, Builtin as Call}
+use Rattle.first_tree.specs.declared.typed.PlaceNode.{PlaceNode}
+use Rattle.first_tree.specs.declared.typed.Builtin.{Builtin}
+use Rattle.first_tree.specs.declared.run.Source.{Source}
+use Rattle.first_tree.specs.Walking.{Res, Go, Act, bind, after, pure, still}
+use Rattle.first_tree.specs.Walk.{Around, deeper, expr, place, whole, performs}
+use Rattle.first_tree.specs.Clear.{clear, known_of}
 use Rattle.clear_run.specs.declared.machine.Machine.{Machine}
 use Rattle.clear_run.specs.declared.machine.Fault.{Fault}
 use Rattle.clear_run.specs.declared.machine.Fault.TheVariants.{Ended as Stopped, NoMemory}

@@ -5,13 +5,13 @@ use Rattle.std.proofs.lemmas.Bool.Decides.{nat_tests}
 use Rattle.oc_values.specs.declared.integers.IntKind.{IntKind}
 use Rattle.oc_values.specs.Integers.{convert}
 use Rattle.oc_source.specs.declared.spot.Spot.{Spot}
-use Rattle.oc_tree.specs.declared.run.ShownItem.{ShownItem}
-use Rattle.oc_tree.specs.declared.run.ClearSetup.{ClearSetup}
-use Rattle.oc_tree.specs.declared.run.Value.{Value}
-use Rattle.oc_tree.specs.declared.run.Value.TheVariants.{Hidden}
-use Rattle.oc_tree.specs.Walking.{Mem, still, stilled, bind, pure, transfers}
-use Rattle.oc_tree.specs.Walk.{word, counted, cost, count_of}
-use Rattle.oc_tree.specs.Clear.{clear, known_of, words_of}
+use Rattle.first_tree.specs.declared.run.ShownItem.{ShownItem}
+use Rattle.first_tree.specs.declared.run.ClearSetup.{ClearSetup}
+use Rattle.first_tree.specs.declared.run.Value.{Value}
+use Rattle.first_tree.specs.declared.run.Value.TheVariants.{Hidden}
+use Rattle.first_tree.specs.Walking.{Mem, still, stilled, bind, pure, transfers}
+use Rattle.first_tree.specs.Walk.{word, counted, cost, count_of}
+use Rattle.first_tree.specs.Clear.{clear, known_of, words_of}
 use Rattle.clear_run.specs.Runs.{word_at, fed, ClearState, Does}
 use Rattle.clear_run.specs.declared.machine.Fault.{Fault}
 

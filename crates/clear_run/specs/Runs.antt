@@ -3,31 +3,31 @@ use Rattle.std.specs.Prelude.{ℕ, ◌≡◌, ◌<◌, ℤ, pos, negsuc, List, [
 use Rattle.oc_values.specs.declared.integers.IntKind.{IntKind}
 use Rattle.oc_cells.specs.declared.memory.Block.{Block}
 use Rattle.oc_cells.specs.declared.memory.Block.TheVariants.{Live, Gone}
-use Rattle.oc_tree.specs.declared.run.ShownItem.{ShownItem}
-use Rattle.oc_tree.specs.declared.run.ClearSetup.{ClearSetup}
-use Rattle.oc_tree.specs.declared.run.Value.{Value}
-use Rattle.oc_tree.specs.declared.run.Value.TheVariants.{Int, Pointer, Hidden, Nothing}
+use Rattle.first_tree.specs.declared.run.ShownItem.{ShownItem}
+use Rattle.first_tree.specs.declared.run.ClearSetup.{ClearSetup}
+use Rattle.first_tree.specs.declared.run.Value.{Value}
+use Rattle.first_tree.specs.declared.run.Value.TheVariants.{Int, Pointer, Hidden, Nothing}
 use Rattle.oc_cells.specs.declared.memory.CellValue.{CellValue}
 use Rattle.oc_cells.specs.declared.memory.CellValue.TheVariants.{Int as CellInt, Pointer as CellPointer, Hidden as CellHidden}
-use Rattle.oc_tree.specs.declared.run.Flow.{Flow}
+use Rattle.first_tree.specs.declared.run.Flow.{Flow}
 use Rattle.oc_cells.specs.declared.memory.Address.{Address}
 use Rattle.oc_cells.specs.declared.types.SlotType.{SlotType}
-use Rattle.oc_tree.specs.declared.typed.TExpr.{TExpr}
-use Rattle.oc_tree.specs.declared.typed.TPlace.{TPlace}
-use Rattle.oc_tree.specs.declared.typed.TStmt.{TStmt}
-use Rattle.oc_tree.specs.declared.typed.TDeclared.{TDeclared}
+use Rattle.first_tree.specs.declared.typed.TExpr.{TExpr}
+use Rattle.first_tree.specs.declared.typed.TPlace.{TPlace}
+use Rattle.first_tree.specs.declared.typed.TStmt.{TStmt}
+use Rattle.first_tree.specs.declared.typed.TDeclared.{TDeclared}
 use Rattle.oc_source.specs.declared.spot.Spot.{Spot}
 use Rattle.oc_cells.specs.declared.trap.TrapKind.{TrapKind}
-use Rattle.oc_tree.specs.declared.outcome.Outcome.TheVariants.{Trap}
+use Rattle.first_tree.specs.declared.outcome.Outcome.TheVariants.{Trap}
 use Rattle.oc_values.specs.Integers.{convert}
 use Rattle.oc_cells.specs.declared.trap.TrapKind.TheVariants.{I1}
-use Rattle.oc_tree.specs.Walk.{cost}
-use Rattle.oc_tree.specs.Walking.{Mem, trap, transfers, State, Res, Go, Stop, Ended, Act, bind, pure}
-use Rattle.oc_tree.specs.Walk.{Around, A, V, whole, place, source_at, declares, declares_all, stepped, listed}
-use Rattle.oc_tree.specs.Domain.{Domain}
-use Rattle.oc_tree.specs.declared.run.Source.{Source}
-use Rattle.oc_tree.specs.declared.run.Source.TheVariants.{Public}
-use Rattle.oc_tree.specs.Clear.{clear, known_of}
+use Rattle.first_tree.specs.Walk.{cost}
+use Rattle.first_tree.specs.Walking.{Mem, trap, transfers, State, Res, Go, Stop, Ended, Act, bind, pure}
+use Rattle.first_tree.specs.Walk.{Around, A, V, whole, place, source_at, declares, declares_all, stepped, listed}
+use Rattle.first_tree.specs.Domain.{Domain}
+use Rattle.first_tree.specs.declared.run.Source.{Source}
+use Rattle.first_tree.specs.declared.run.Source.TheVariants.{Public}
+use Rattle.first_tree.specs.Clear.{clear, known_of}
 use Rattle.clear_run.specs.declared.machine.Machine.{Machine}
 use Rattle.clear_run.specs.declared.machine.Fault.{Fault}
 use Rattle.clear_run.specs.declared.machine.Fault.TheVariants.{Ended as Stopped, NoMemory}

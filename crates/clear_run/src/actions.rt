@@ -1,20 +1,20 @@
 //! The actions of a run on its machine, each with the walk's own action as its contract.
 
 ghost use Rattle.std.specs.Prelude.{◌≡◌, List, ℤ, reverse};
-ghost use Rattle.oc_tree.specs.Walking.{still, step, block_of};
-ghost use Rattle.oc_tree.specs.Values.{slot, reads, initializes, follows, constant, valued};
-ghost use Rattle.oc_tree.specs.Walk.{operates, opens};
-ghost use Rattle.oc_tree.specs.Typing.{is_sum};
-ghost use Rattle.oc_tree.specs.Clear.{clear};
-ghost use Rattle.oc_tree.specs.declared.outcome.Outcome.TheVariants.{Trap};
+ghost use Rattle.first_tree.specs.Walking.{still, step, block_of};
+ghost use Rattle.first_tree.specs.Values.{slot, reads, initializes, follows, constant, valued};
+ghost use Rattle.first_tree.specs.Walk.{operates, opens};
+ghost use Rattle.first_tree.specs.Typing.{is_sum};
+ghost use Rattle.first_tree.specs.Clear.{clear};
+ghost use Rattle.first_tree.specs.declared.outcome.Outcome.TheVariants.{Trap};
 ghost use Rattle.clear_run.specs.Runs.{Does, state, held};
 ghost use Rattle.clear_run.specs.declared.machine.Fault.TheVariants.{Ended as Stopped};
 
 use crate::machine::{Fault, Machine};
 use crate::memory::{load_cell, make_block, store_cell};
+use first_tree::{ClearSetup, Named, Outcome, Value};
 use oc_cells::{Address, CType, CellValue, TrapKind};
 use oc_source::Spot;
-use oc_tree::{ClearSetup, Named, Outcome, Value};
 use oc_values::BinaryOp;
 use std::alloc::Global;
 

@@ -2,18 +2,18 @@
 
 ghost use Rattle.std.specs.Prelude.{◌≡◌, IfOk};
 ghost use Rattle.std.specs.Option.{option_map};
-ghost use Rattle.oc_tree.specs.Walking.{still, transfers};
-ghost use Rattle.oc_tree.specs.Values.{formatted};
-ghost use Rattle.oc_tree.specs.Walk.{performs, word, feeds, reveals, prints, cost};
-ghost use Rattle.oc_tree.specs.Clear.{clear, known_of, words_of as words};
+ghost use Rattle.first_tree.specs.Walking.{still, transfers};
+ghost use Rattle.first_tree.specs.Values.{formatted};
+ghost use Rattle.first_tree.specs.Walk.{performs, word, feeds, reveals, prints, cost};
+ghost use Rattle.first_tree.specs.Clear.{clear, known_of, words_of as words};
 ghost use Rattle.clear_run.specs.Runs.{Does, state, word_at, fed};
 
 use crate::actions::trap;
 use crate::machine::{Fault, Machine};
 use crate::memory::store_cell;
+use first_tree::{Builtin, ClearSetup, Outcome, PrintPiece, ShownItem, Source, Value};
 use oc_cells::{CType, CellValue, TrapKind};
 use oc_source::Spot;
-use oc_tree::{Builtin, ClearSetup, Outcome, PrintPiece, ShownItem, Source, Value};
 use oc_values::{IntKind, Items, Name, convert};
 use std::alloc::{AllocError, Global};
 

@@ -1,7 +1,7 @@
 //! What a run holds, and why it stops.
 
+use first_tree::{Named, Outcome, ShownItem};
 use oc_cells::{Block, Row};
-use oc_tree::{Named, Outcome, ShownItem};
 use oc_values::{Items, NoMemory};
 use std::alloc::AllocError;
 

@@ -3,16 +3,16 @@
 ghost use Rattle.std.specs.Prelude.{◌≡◌, ◌+◌, ◌^◌, ◌≤◌, IfOk, false, slice_get, []};
 ghost use Rattle.oc_cells.specs.Memory.{load, store, storable, put, make, living, weight, blank, blanks};
 ghost use Rattle.oc_cells.specs.Layout.{leaves};
-ghost use Rattle.oc_tree.specs.Walking.{live_limit};
+ghost use Rattle.first_tree.specs.Walking.{live_limit};
 ghost use Rattle.oc_cells.specs.declared.memory.Address.TheVariants.{At};
 ghost use Rattle.clear_run.specs.Runs.{Writes, HasCellIn, zero_of, MakesBlock};
 
 use crate::machine::Fault;
+use first_tree::Outcome;
 use oc_cells::{
     Address, Block, CType, Cell, CellValue, Leaf, Row, TrapKind, fits_type, push_leaves, same_type,
 };
 use oc_source::Spot;
-use oc_tree::Outcome;
 use std::alloc::{AllocError, Global};
 
 /// How many cells may live.

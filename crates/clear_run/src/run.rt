@@ -1,8 +1,8 @@
 //! The walk of a typed tree.
 
 ghost use Rattle.std.specs.Prelude.{◌≡◌, true, IfOk};
-ghost use Rattle.oc_tree.specs.Walk.{invokes};
-ghost use Rattle.oc_tree.specs.Clear.{Clear, IsEnd, clear, known_of};
+ghost use Rattle.first_tree.specs.Walk.{invokes};
+ghost use Rattle.first_tree.specs.Clear.{Clear, IsEnd, clear, known_of};
 ghost use Rattle.clear_run.specs.Runs.{started, RunsDeclared, RunsDeclares, RunsStmt, RunsBody, RunsExpr, RunsPlace, RunsExprs, source_in};
 
 use crate::actions::{
@@ -10,11 +10,11 @@ use crate::actions::{
 };
 use crate::builtins::perform;
 use crate::machine::{Fault, Machine};
-use oc_cells::{Address, Row, SlotType, TrapKind};
-use oc_tree::{
+use first_tree::{
     Builtin, ClearSetup, Flow, Outcome, PlaceNode, ShownItem, Source, TDeclared, TExpr, TExprNode,
     TPlace, TStmt, TStmtNode, Typed, TypedFunction, Value,
 };
+use oc_cells::{Address, Row, SlotType, TrapKind};
 use oc_values::{Items, NoMemory};
 use std::alloc::Global;
 

@@ -26,7 +26,8 @@ number_to most digits = if list_all is_digit digits && nat_le (decimal_value dig
 
 -- 1 to 19 decimal digits, whose value is at most this
 abbrev pub is_decimal_to : ℕ → List ℕ → Bool
-is_decimal_to most digits = nat_le 1 (length digits) && nat_le (length digits) 19 && list_all is_digit digits && nat_le (decimal_value digits) most
+is_decimal_to most digits =
+    nat_le 1 (length digits) && nat_le (length digits) 19 && list_all is_digit digits && nat_le (decimal_value digits) most
 
 -- a minus stands in front
 abbrev pub has_minus : List ℕ → Bool

@@ -49,14 +49,14 @@ is_once [] = true
 is_once (p ∷ ps) = not (has ps p) && is_once ps
 
 -- the words are the command's name, these operands, and these options, none of which takes a slot of another
-pub record Reads {K : Type 0} (c : Command K) (words : List (List ℕ)) (operands : List (List ℕ)) (given : List Given) : Type 0 where
+pub record Reads {K : Type 0} (c : Command K) (words operands : List (List ℕ)) (given : List Given) : Type 0 where
   pub text : words ≡ c.name ∷ (operands ++ flat_map option_words given)
   pub forms : AllZip (λ form word. fits form word ≡ true) c.operands operands
   pub members : AllByRecursion (Belongs c) given
   pub once : is_once (slots_of given) ≡ true
 
 -- the words are this command, with these operands and options: each slot that has to be taken is
-pub record IsCommandOf {K : Type 0} (c : Command K) (words : List (List ℕ)) (operands : List (List ℕ)) (given : List Given) : Type 0 where
+pub record IsCommandOf {K : Type 0} (c : Command K) (words operands : List (List ℕ)) (given : List Given) : Type 0 where
   pub reads : Reads c words operands given
   pub complete : AllByRecursion (λ slot. has (slots_of given) slot ≡ true) c.required
 
@@ -87,8 +87,8 @@ pub record Breaks {K : Type 0} (table : List (Command K)) (words : List (List �
 -- words are one command at most, with one list of operands and one of given options
 abbrev pub HasOneReading : {K : Type 0} → List (Command K) → Type 0
 HasOneReading {K} table = (words : List (List ℕ)) (c d : Command K) → Contains table c → Contains table d →
-    (operands others : List (List ℕ)) (given more : List Given) → IsCommandOf c words operands given → IsCommandOf d words others more →
-    (c ≡ d) × (operands ≡ others) × (given ≡ more)
+    (operands others : List (List ℕ)) (given more : List Given) →
+    IsCommandOf c words operands given → IsCommandOf d words others more → (c ≡ d) × (operands ≡ others) × (given ≡ more)
 
 -- no name stands twice
 abbrev pub are_once : List (List ℕ) → Bool

@@ -220,3 +220,14 @@ fn transfers(rt: HostRuntime) -> Result<(), Fail> {
     assert!(rt; sender.tag == other.tag);
     Ok(())
 }
+
+#[test]
+fn coin_labels(rt: HostRuntime) -> Result<(), Fail> {
+    let mut labels = CoinLabels::new(&[0; 32], 0);
+    for (i, field) in ZEROS.chunks(16).enumerate() {
+        assert_eq!(rt; labels.draw().to_le_bytes().as_slice(), field);
+        let label = coin_label(&[0; 32], i as u64);
+        assert_eq!(rt; label.to_le_bytes().as_slice(), field);
+    }
+    Ok(())
+}

@@ -113,25 +113,35 @@ fn put_node(out: &mut Text, node: &ExprNode) {
         }
         ExprNode::Binary { op, left, right } => {
             out.join(format!(in out.alloc; "{op:?} "));
-            put_two(out, left, right);
+            put_expr(out, left.get());
+            out.put(" ");
+            put_expr(out, right.get());
         }
         ExprNode::Logic { all, left, right } => {
             out.join(format!(in out.alloc; "Logic {all} "));
-            put_two(out, left, right);
+            put_expr(out, left.get());
+            out.put(" ");
+            put_expr(out, right.get());
         }
         ExprNode::Choose { cond, yes, no } => {
             out.put("Choose ");
             put_expr(out, cond.get());
             out.put(" ");
-            put_two(out, yes, no);
+            put_expr(out, yes.get());
+            out.put(" ");
+            put_expr(out, no.get());
         }
         ExprNode::Assign { op, left, right } => {
             out.join(format!(in out.alloc; "Assign {op:?} "));
-            put_two(out, left, right);
+            put_expr(out, left.get());
+            out.put(" ");
+            put_expr(out, right.get());
         }
         ExprNode::Index { part, amount } => {
             out.put("Index ");
-            put_two(out, part, amount);
+            put_expr(out, part.get());
+            out.put(" ");
+            put_expr(out, amount.get());
         }
         ExprNode::Field { part, name } => {
             out.put("Field ");
@@ -163,13 +173,6 @@ fn put_node(out: &mut Text, node: &ExprNode) {
             put_type(out, ty);
         }
     }
-}
-
-#[cycle(exprs)]
-fn put_two(out: &mut Text, left: &Boxed<Expr>, right: &Boxed<Expr>) {
-    put_expr(out, left.get());
-    out.put(" ");
-    put_expr(out, right.get());
 }
 
 fn put_perhaps(out: &mut Text, expr: &Option<Boxed<Expr>>) {
@@ -216,11 +219,7 @@ fn put_stmts(out: &mut Text, stmts: &Items<Stmt>) {
 }
 
 #[cycle(stmts)]
-fn put_branches(out: &mut Text, cond: &Expr, yes: &Stmt, no: &Option<Boxed<Stmt>>) {
-    put_expr(out, cond);
-    out.put(" ");
-    put_stmt(out, yes);
-    out.put(" ");
+fn put_else(out: &mut Text, no: &Option<Boxed<Stmt>>) {
     match no {
         Some(no) => put_stmt(out, no.get()),
         None => out.put("-"),
@@ -246,11 +245,19 @@ fn put_stmt_node(out: &mut Text, node: &StmtNode) {
         }
         StmtNode::If { cond, yes, no } => {
             out.put("If ");
-            put_branches(out, cond.get(), yes.get(), no);
+            put_expr(out, cond.get());
+            out.put(" ");
+            put_stmt(out, yes.get());
+            out.put(" ");
+            put_else(out, no);
         }
         StmtNode::OblivIf { cond, yes, no } => {
             out.put("OblivIf ");
-            put_branches(out, cond.get(), yes.get(), no);
+            put_expr(out, cond.get());
+            out.put(" ");
+            put_stmt(out, yes.get());
+            out.put(" ");
+            put_else(out, no);
         }
         StmtNode::Always { name, body } => {
             out.put("Always ");

@@ -6,18 +6,18 @@ use Rattle.oc_values.specs.declared.integers.IntKind.TheVariants.{I32}
 use Rattle.oc_values.specs.Integers.{wrap}
 use Rattle.oc_source.specs.declared.spot.Spot.{Spot}
 use Rattle.oc_cells.specs.declared.types.SlotType.{SlotType}
-use Rattle.oc_tree.specs.declared.run.ShownItem.{ShownItem}
-use Rattle.oc_tree.specs.declared.run.Flow.{Flow}
-use Rattle.oc_tree.specs.declared.run.Flow.TheVariants.{Next}
-use Rattle.oc_tree.specs.declared.outcome.Outcome.{Outcome}
-use Rattle.oc_tree.specs.declared.outcome.Outcome.TheVariants.{Done}
-use Rattle.oc_tree.specs.Walking.{Res, Go}
-use Rattle.oc_tree.specs.Walk.{cost, stepped, listed, proceed, finished, entered, invokes}
-use Rattle.oc_tree.specs.Clear.{IsEnd, clear_walk}
+use Rattle.first_tree.specs.declared.run.ShownItem.{ShownItem}
+use Rattle.first_tree.specs.declared.run.Flow.{Flow}
+use Rattle.first_tree.specs.declared.run.Flow.TheVariants.{Next}
+use Rattle.first_tree.specs.declared.outcome.Outcome.{Outcome}
+use Rattle.first_tree.specs.declared.outcome.Outcome.TheVariants.{Done}
+use Rattle.first_tree.specs.Walking.{Res, Go}
+use Rattle.first_tree.specs.Walk.{cost, stepped, listed, proceed, finished, entered, invokes}
+use Rattle.first_tree.specs.Clear.{IsEnd, clear_walk}
 use Rattle.first_form.specs.Items.{Item, Feeds, Declares, Reveals, Prints, Named, is_item, are_items, is_new, is_known, is_summand, declared_by}
 use Rattle.first_form.specs.Trees.{first_of, statement, statements, slot_type, all_declared, main_function}
 use Rattle.first_form.specs.Ending.{Bound, value_of, sum_of, word_of, revealed, bound_after, shown_by, shown_items, one_word_each, EndsDone, ShowsItems}
-use Rattle.oc_tree.specs.declared.run.ShownItem.TheVariants.{Reveal}
+use Rattle.first_tree.specs.declared.run.ShownItem.TheVariants.{Reveal}
 use Rattle.first_form.proofs.EndingWrap.{total, total_is, wrap_wrapped}
 use Rattle.first_form.proofs.EndingState.{Variable, marks, extended, assigned, at, both, marks_extended, marks_assigned, length_extended, length_assigned}
 use Rattle.first_form.proofs.EndingNames.{Agrees, unmarked, agrees_declared, agrees_fed, agrees_assigned}

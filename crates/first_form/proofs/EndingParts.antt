@@ -9,22 +9,22 @@ use Rattle.oc_values.specs.declared.integers.BinaryOp.{BinaryOp}
 use Rattle.oc_values.specs.Integers.{operate, convert}
 use Rattle.oc_source.specs.declared.spot.Spot.{Spot}
 use Rattle.oc_cells.specs.declared.types.CType.{CType, Int}
-use Rattle.oc_tree.specs.declared.typed.TExpr.{TExpr}
-use Rattle.oc_tree.specs.declared.typed.TExprNode.{Number, Binary, Builtin as Call}
-use Rattle.oc_tree.specs.declared.typed.Builtin.TheVariants.{Private, Feed}
+use Rattle.first_tree.specs.declared.typed.TExpr.{TExpr}
+use Rattle.first_tree.specs.declared.typed.TExprNode.{Number, Binary, Builtin as Call}
+use Rattle.first_tree.specs.declared.typed.Builtin.TheVariants.{Private, Feed}
 use Rattle.oc_cells.specs.declared.types.SlotType.{SlotType}
-use Rattle.oc_tree.specs.declared.run.Source.{Source}
-use Rattle.oc_tree.specs.declared.run.Source.TheVariants.{Word}
+use Rattle.first_tree.specs.declared.run.Source.{Source}
+use Rattle.first_tree.specs.declared.run.Source.TheVariants.{Word}
 use Rattle.oc_cells.specs.declared.memory.Block.{Block}
-use Rattle.oc_tree.specs.declared.run.ShownItem.{ShownItem}
-use Rattle.oc_tree.specs.declared.run.Value.{Value}
-use Rattle.oc_tree.specs.declared.run.Value.TheVariants.{Int as VInt, Hidden as VHidden}
-use Rattle.oc_tree.specs.declared.run.Named.{Named as Entered}
-use Rattle.oc_tree.specs.Typing.{is_sum}
-use Rattle.oc_tree.specs.Domain.{Domain}
-use Rattle.oc_tree.specs.Walking.{Mem, State, Res, Go, Act, bind, after, pure, still, stilled, block_of, pays, own}
-use Rattle.oc_tree.specs.Walk.{Around, deeper, whole, operates, sums, Known, word, cost, performs, source_at}
-use Rattle.oc_tree.specs.Clear.{clear}
+use Rattle.first_tree.specs.declared.run.ShownItem.{ShownItem}
+use Rattle.first_tree.specs.declared.run.Value.{Value}
+use Rattle.first_tree.specs.declared.run.Value.TheVariants.{Int as VInt, Hidden as VHidden}
+use Rattle.first_tree.specs.declared.run.Named.{Named as Entered}
+use Rattle.first_tree.specs.Typing.{is_sum}
+use Rattle.first_tree.specs.Domain.{Domain}
+use Rattle.first_tree.specs.Walking.{Mem, State, Res, Go, Act, bind, after, pure, still, stilled, block_of, pays, own}
+use Rattle.first_tree.specs.Walk.{Around, deeper, whole, operates, sums, Known, word, cost, performs, source_at}
+use Rattle.first_tree.specs.Clear.{clear}
 use Rattle.first_form.specs.Items.{Summand, is_known, is_summand, is_plus_or_minus}
 use Rattle.first_form.specs.Trees.{slot_of, reading, summed, int_type, at as nth, fed}
 use Rattle.first_form.specs.Ending.{Bound, value_of, word_of}

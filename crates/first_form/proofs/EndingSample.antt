@@ -4,7 +4,7 @@ use Rattle.std.specs.Prelude.{codes}
 use Rattle.std.specs.Fmt.{digits}
 use Rattle.oc_values.specs.declared.integers.IntKind.TheVariants.{I32}
 use Rattle.oc_values.specs.declared.integers.BinaryOp.TheVariants.{Add, Sub}
-use Rattle.oc_tree.specs.declared.run.ShownItem.TheVariants.{Print, Reveal}
+use Rattle.first_tree.specs.declared.run.ShownItem.TheVariants.{Print, Reveal}
 use Rattle.first_form.specs.Items.{Item, Feeds, Declares, Reveals, Prints}
 use Rattle.first_form.specs.Ending.{shown_items}
 

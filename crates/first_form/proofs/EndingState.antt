@@ -11,10 +11,10 @@ use Rattle.oc_cells.specs.declared.memory.CellValue.{CellValue}
 use Rattle.oc_cells.specs.declared.memory.CellValue.TheVariants.{Int as CellInt, Hidden as CellHidden}
 use Rattle.oc_cells.specs.declared.memory.Block.{Block}
 use Rattle.oc_cells.specs.declared.memory.Block.TheVariants.{Live}
-use Rattle.oc_tree.specs.declared.run.ShownItem.{ShownItem}
-use Rattle.oc_tree.specs.declared.run.Named.{Named as Entered}
+use Rattle.first_tree.specs.declared.run.ShownItem.{ShownItem}
+use Rattle.first_tree.specs.declared.run.Named.{Named as Entered}
 use Rattle.oc_cells.specs.Memory.{living, make, joined, store, put, update, written, in_live}
-use Rattle.oc_tree.specs.Walking.{State, block_of}
+use Rattle.first_tree.specs.Walking.{State, block_of}
 use Rattle.first_form.specs.Items.{Named, same_bytes, mark_of, is_marked, is_known}
 use Rattle.first_form.specs.Trees.{slot_of}
 use Rattle.first_form.proofs.Names.{same_self}

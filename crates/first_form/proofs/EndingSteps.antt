@@ -9,23 +9,23 @@ use Rattle.oc_values.specs.Integers.{convert}
 use Rattle.oc_source.specs.declared.spot.Spot.{Spot}
 use Rattle.oc_cells.specs.declared.types.CType.{Int, Pointer, Nothing as NoType}
 use Rattle.oc_cells.specs.declared.types.SlotType.{SlotType}
-use Rattle.oc_tree.specs.declared.typed.TExpr.{TExpr}
-use Rattle.oc_tree.specs.declared.typed.TExprNode.{AddressOf}
-use Rattle.oc_tree.specs.declared.run.Source.{Source}
-use Rattle.oc_tree.specs.declared.typed.Builtin.TheVariants.{Reveal, Print}
-use Rattle.oc_tree.specs.declared.typed.PrintPiece.TheVariants.{Text, Decimal}
+use Rattle.first_tree.specs.declared.typed.TExpr.{TExpr}
+use Rattle.first_tree.specs.declared.typed.TExprNode.{AddressOf}
+use Rattle.first_tree.specs.declared.run.Source.{Source}
+use Rattle.first_tree.specs.declared.typed.Builtin.TheVariants.{Reveal, Print}
+use Rattle.first_tree.specs.declared.typed.PrintPiece.TheVariants.{Text, Decimal}
 use Rattle.oc_cells.specs.declared.memory.Block.{Block}
 use Rattle.oc_cells.specs.declared.memory.Address.TheVariants.{At}
 use Rattle.oc_cells.specs.declared.memory.CellValue.TheVariants.{Int as CellInt, Hidden as CellHidden}
 use Rattle.oc_cells.specs.declared.trap.TrapKind.{TrapKind}
-use Rattle.oc_tree.specs.declared.run.ShownItem.{ShownItem}
-use Rattle.oc_tree.specs.declared.run.ShownItem.TheVariants.{Print as Printed, Reveal as Revealed}
-use Rattle.oc_tree.specs.declared.run.Value.TheVariants.{Hidden as VHidden, Pointer as VPointer, Nothing as VNothing}
-use Rattle.oc_tree.specs.declared.run.Flow.TheVariants.{Next}
+use Rattle.first_tree.specs.declared.run.ShownItem.{ShownItem}
+use Rattle.first_tree.specs.declared.run.ShownItem.TheVariants.{Print as Printed, Reveal as Revealed}
+use Rattle.first_tree.specs.declared.run.Value.TheVariants.{Hidden as VHidden, Pointer as VPointer, Nothing as VNothing}
+use Rattle.first_tree.specs.declared.run.Flow.TheVariants.{Next}
 use Rattle.oc_cells.specs.Memory.{make, store}
-use Rattle.oc_tree.specs.Walking.{Mem, Res, Go, Act, bind, after, pure, still, stilled, answered, keeps, enter, block_of}
-use Rattle.oc_tree.specs.Values.{initializes}
-use Rattle.oc_tree.specs.Walk.{Around, whole, cost, opens, started, typed_slot, declares, stepped, performs, source_at}
+use Rattle.first_tree.specs.Walking.{Mem, Res, Go, Act, bind, after, pure, still, stilled, answered, keeps, enter, block_of}
+use Rattle.first_tree.specs.Values.{initializes}
+use Rattle.first_tree.specs.Walk.{Around, whole, cost, opens, started, typed_slot, declares, stepped, performs, source_at}
 use Rattle.first_form.specs.Items.{Feeds, Declares, Reveals, Prints, Summand, is_known, is_summand}
 use Rattle.first_form.specs.Trees.{slot_of, reading, summed, int_type, at as nth, fed, statement, variable}
 use Rattle.first_form.specs.Ending.{Bound, value_of, word_of}

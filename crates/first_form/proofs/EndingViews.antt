@@ -3,16 +3,16 @@ use Rattle.std.proofs.Common.{◌≡◌, List, [], ◌∷◌, refl}
 use Rattle.oc_values.specs.declared.integers.BinaryOp.{BinaryOp}
 use Rattle.oc_source.specs.declared.spot.Spot.{Spot}
 use Rattle.oc_cells.specs.declared.types.CType.{CType}
-use Rattle.oc_tree.specs.declared.typed.TExpr.{TExpr}
-use Rattle.oc_tree.specs.declared.typed.Builtin.{Builtin}
-use Rattle.oc_tree.specs.declared.typed.Builtin.TheVariants.{Private}
-use Rattle.oc_tree.specs.declared.typed.TExprNode.{Binary, Builtin as Call}
-use Rattle.oc_tree.specs.declared.typed.PlaceNode.TheBlock.{hidden-the_row-TExpr-0, hidden-the_row-TExpr-1}
-use Rattle.oc_tree.specs.declared.run.Source.TheVariants.{Word}
+use Rattle.first_tree.specs.declared.typed.TExpr.{TExpr}
+use Rattle.first_tree.specs.declared.typed.Builtin.{Builtin}
+use Rattle.first_tree.specs.declared.typed.Builtin.TheVariants.{Private}
+use Rattle.first_tree.specs.declared.typed.TExprNode.{Binary, Builtin as Call}
+use Rattle.first_tree.specs.declared.typed.PlaceNode.TheBlock.{hidden-the_row-TExpr-0, hidden-the_row-TExpr-1}
+use Rattle.first_tree.specs.declared.run.Source.TheVariants.{Word}
 use denote.Hole.Carrier.{hidden}
-use Rattle.oc_tree.specs.Walking.{bind, pure, still}
-use Rattle.oc_tree.specs.Domain.{Domain}
-use Rattle.oc_tree.specs.Walk.{Around, deeper, expr, whole, operates, performs, source_at}
+use Rattle.first_tree.specs.Walking.{bind, pure, still}
+use Rattle.first_tree.specs.Domain.{Domain}
+use Rattle.first_tree.specs.Walk.{Around, deeper, expr, whole, operates, performs, source_at}
 
 pub private_at : (p : Spot) (es : List TExpr) → source_at p (Call Private es) ≡ Word p
 unfolding hidden-the_row-TExpr-1 hidden

@@ -3,10 +3,10 @@ use Rattle.std.proofs.Common.{◌≡◌, sym, ap, subst, ◌∙◌, ◌∷◌, [
 use Rattle.oc_source.specs.declared.parsed.Program.{Program}
 use Rattle.oc_source.specs.declared.parsed.Stmt.{Stmt}
 use Rattle.oc_cells.specs.declared.types.SlotType.{SlotType}
-use Rattle.oc_tree.specs.declared.typed.TStmt.{TStmt}
-use Rattle.oc_tree.specs.declared.typed.TypedFunction.{TypedFunction}
-use Rattle.oc_tree.specs.declared.program.Typed.{Typed}
-use Rattle.oc_tree.specs.Typing.{is_typed}
+use Rattle.first_tree.specs.declared.typed.TStmt.{TStmt}
+use Rattle.first_tree.specs.declared.typed.TypedFunction.{TypedFunction}
+use Rattle.first_tree.specs.declared.program.Typed.{Typed}
+use Rattle.first_tree.specs.Typing.{is_typed}
 use Rattle.first_form.specs.Trees.{parsed_items, main_function, slot_type, all_declared, main_with}
 use Rattle.first_form.specs.Bodies.{IsBody, IsMain}
 use Rattle.first_form.specs.First.{First}

@@ -11,13 +11,13 @@ use Rattle.oc_source.specs.declared.parsed.ExprNode.TheVariants as e
 use Rattle.oc_source.specs.declared.parsed.UnaryOp.TheVariants.{Address}
 use Rattle.oc_source.specs.declared.parsed.Stmt.{Stmt}
 use Rattle.oc_source.specs.declared.parsed.StmtNode.TheVariants as st
-use Rattle.oc_tree.specs.declared.typed.TypedFunction.{TypedFunction}
-use Rattle.oc_tree.specs.declared.program.Typed.{Typed}
-use Rattle.oc_tree.specs.declared.typed.PlaceNode.TheBlock.{hidden-the_row-TExpr-0, hidden-the_row-TExpr-1}
+use Rattle.first_tree.specs.declared.typed.TypedFunction.{TypedFunction}
+use Rattle.first_tree.specs.declared.program.Typed.{Typed}
+use Rattle.first_tree.specs.declared.typed.PlaceNode.TheBlock.{hidden-the_row-TExpr-0, hidden-the_row-TExpr-1}
 use Rattle.oc_cells.specs.declared.types.CType.TheBlock.{hidden-the_row-CType-0}
 use denote.Hole.Carrier.{hidden}
 use Rattle.oc_source.specs.Parsed.{expr, stmt, int_base, field, declared}
-use Rattle.oc_tree.specs.Typing.{is_typed}
+use Rattle.first_tree.specs.Typing.{is_typed}
 use Rattle.first_form.specs.Items.{Item, Feeds, Declares, Reveals, Prints}
 use Rattle.first_form.specs.Trees.{main_function, literal_0, literal_1, literal_2}
 use Rattle.first_form.specs.First.{First}

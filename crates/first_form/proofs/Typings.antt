@@ -11,13 +11,13 @@ use Rattle.oc_source.specs.declared.spot.Spot.{Spot}
 use Rattle.oc_cells.specs.declared.types.CType.{Pointer, Nothing}
 use Rattle.oc_cells.specs.declared.types.CType.TheBlock.{hidden-the_row-CType-0}
 use Rattle.oc_cells.specs.declared.types.SlotType.{SlotType}
-use Rattle.oc_tree.specs.declared.typed.TExpr.{TExpr}
-use Rattle.oc_tree.specs.declared.typed.TExprNode.{TExprNode, AddressOf, Binary, Builtin}
-use Rattle.oc_tree.specs.declared.typed.PlaceNode.TheBlock.{hidden-the_row-TExpr-0, hidden-the_row-TExpr-1}
-use Rattle.oc_tree.specs.declared.typed.Builtin.TheVariants.{Reveal, Print}
-use Rattle.oc_tree.specs.declared.typed.PrintPiece.TheVariants.{Text, Decimal}
+use Rattle.first_tree.specs.declared.typed.TExpr.{TExpr}
+use Rattle.first_tree.specs.declared.typed.TExprNode.{TExprNode, AddressOf, Binary, Builtin}
+use Rattle.first_tree.specs.declared.typed.PlaceNode.TheBlock.{hidden-the_row-TExpr-0, hidden-the_row-TExpr-1}
+use Rattle.first_tree.specs.declared.typed.Builtin.TheVariants.{Reveal, Print}
+use Rattle.first_tree.specs.declared.typed.PrintPiece.TheVariants.{Text, Decimal}
 use denote.Hole.Carrier.{hidden}
-use Rattle.oc_tree.specs.Typing.{typed_expr, typed_start, typed_node, names_of, typed_body, is_typed, is_party, is_of_slot, is_sum}
+use Rattle.first_tree.specs.Typing.{typed_expr, typed_start, typed_node, names_of, typed_body, is_typed, is_party, is_of_slot, is_sum}
 use Rattle.oc_cells.specs.Types.{same, alike}
 use Rattle.first_form.specs.Items.{Item, Feeds, Declares, Reveals, Prints, Summand, Named, same_bytes, mark_of, is_marked, is_known, is_new, is_plus_or_minus, is_summand, is_item, are_items, declared_by}
 use Rattle.first_form.specs.Trees.{slot_of, int_type, variable, reading, summed, fed, statement, statements, slot_type, all_declared, main_function, at, first_of}

@@ -9,11 +9,11 @@ use Rattle.oc_source.specs.declared.parsed.Expr.{Expr}
 use Rattle.oc_source.specs.declared.parsed.Stmt.{Stmt}
 use Rattle.oc_source.specs.declared.parsed.StmtNode.{StmtNode, Declare}
 use Rattle.oc_source.specs.declared.parsed.StmtNode.TheVariants as st
-use Rattle.oc_tree.specs.declared.typed.TExpr.{TExpr}
-use Rattle.oc_tree.specs.declared.typed.TExprNode.{Builtin}
-use Rattle.oc_tree.specs.declared.typed.Builtin.TheVariants.{Reveal, Print}
-use Rattle.oc_tree.specs.declared.typed.PrintPiece.TheVariants.{Text, Decimal}
-use Rattle.oc_tree.specs.declared.typed.TStmt.{TStmt}
+use Rattle.first_tree.specs.declared.typed.TExpr.{TExpr}
+use Rattle.first_tree.specs.declared.typed.TExprNode.{Builtin}
+use Rattle.first_tree.specs.declared.typed.Builtin.TheVariants.{Reveal, Print}
+use Rattle.first_tree.specs.declared.typed.PrintPiece.TheVariants.{Text, Decimal}
+use Rattle.first_tree.specs.declared.typed.TStmt.{TStmt}
 use Rattle.oc_source.specs.Parsed.{stmt}
 use Rattle.first_form.specs.declared.item.SourceItem.{SourceItem}
 use Rattle.first_form.specs.declared.item.SourceItem.TheVariants as source

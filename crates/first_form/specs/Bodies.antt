@@ -4,7 +4,7 @@ use Rattle.oc_source.specs.declared.spot.Spot.{Spot}
 use Rattle.oc_source.specs.declared.parsed.Stmt.{Stmt}
 use Rattle.oc_source.specs.declared.parsed.Program.{Program}
 use Rattle.oc_cells.specs.declared.types.SlotType.{SlotType}
-use Rattle.oc_tree.specs.declared.typed.TStmt.{TStmt}
+use Rattle.first_tree.specs.declared.typed.TStmt.{TStmt}
 use Rattle.first_form.specs.Items.{Item, Named, is_item, are_items, declared_by}
 use Rattle.first_form.specs.Trees.{parsed, parsed_items, statement, statements, slot_type, all_declared, function_with}
 

@@ -5,14 +5,14 @@ use Rattle.oc_values.specs.Integers.{wrap}
 use Rattle.oc_values.specs.declared.integers.IntKind.TheVariants.{I32}
 use Rattle.oc_values.specs.declared.integers.BinaryOp.{BinaryOp}
 use Rattle.oc_values.specs.declared.integers.BinaryOp.TheVariants.{Add}
-use Rattle.oc_tree.specs.declared.run.ShownItem.{ShownItem}
-use Rattle.oc_tree.specs.declared.run.ShownItem.TheVariants.{Print, Reveal}
-use Rattle.oc_tree.specs.declared.run.ClearSetup.{ClearSetup}
-use Rattle.oc_tree.specs.declared.outcome.Outcome.{Outcome}
-use Rattle.oc_tree.specs.declared.outcome.Outcome.TheVariants.{Done}
+use Rattle.first_tree.specs.declared.run.ShownItem.{ShownItem}
+use Rattle.first_tree.specs.declared.run.ShownItem.TheVariants.{Print, Reveal}
+use Rattle.first_tree.specs.declared.run.ClearSetup.{ClearSetup}
+use Rattle.first_tree.specs.declared.outcome.Outcome.{Outcome}
+use Rattle.first_tree.specs.declared.outcome.Outcome.TheVariants.{Done}
 use Rattle.oc_source.specs.declared.parsed.Program.{Program}
-use Rattle.oc_tree.specs.declared.program.Typed.{Typed}
-use Rattle.oc_tree.specs.Clear.{Clear}
+use Rattle.first_tree.specs.declared.program.Typed.{Typed}
+use Rattle.first_tree.specs.Clear.{Clear}
 use Rattle.first_form.specs.Items.{Item, Feeds, Declares, Reveals, Prints, Summand, same_bytes}
 use Rattle.first_form.specs.First.{First}
 

@@ -2,7 +2,7 @@
 use Rattle.std.specs.Prelude.{◌≡◌, ◌≤◌, List, [], ◌∷◌, length, IsTrue}
 use Rattle.oc_source.specs.declared.spot.Spot.{Spot}
 use Rattle.oc_source.specs.declared.parsed.Program.{Program}
-use Rattle.oc_tree.specs.declared.program.Typed.{Typed}
+use Rattle.first_tree.specs.declared.program.Typed.{Typed}
 use Rattle.first_form.specs.Items.{Item, are_items}
 use Rattle.first_form.specs.Trees.{parsed_main, main_function}
 

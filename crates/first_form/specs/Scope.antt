@@ -5,11 +5,11 @@ use Rattle.oc_values.specs.declared.integers.IntKind.TheVariants.{I32}
 use Rattle.oc_source.specs.declared.spot.Spot.{Spot}
 use Rattle.oc_source.specs.declared.parsed.Expr.{Expr}
 use Rattle.oc_source.specs.declared.parsed.ExprNode.TheVariants as e
-use Rattle.oc_tree.specs.declared.typed.TExpr.{TExpr}
-use Rattle.oc_tree.specs.declared.typed.TExprNode.{Binary, Builtin}
-use Rattle.oc_tree.specs.declared.typed.Builtin.TheVariants.{Reveal, Print}
-use Rattle.oc_tree.specs.declared.typed.PrintPiece.TheVariants.{Text, Decimal}
-use Rattle.oc_tree.specs.declared.typed.TStmt.{TStmt}
+use Rattle.first_tree.specs.declared.typed.TExpr.{TExpr}
+use Rattle.first_tree.specs.declared.typed.TExprNode.{Binary, Builtin}
+use Rattle.first_tree.specs.declared.typed.Builtin.TheVariants.{Reveal, Print}
+use Rattle.first_tree.specs.declared.typed.PrintPiece.TheVariants.{Text, Decimal}
+use Rattle.first_tree.specs.declared.typed.TStmt.{TStmt}
 use Rattle.oc_source.specs.Parsed.{expr}
 use Rattle.first_form.specs.declared.node.SourceName.{SourceName}
 use Rattle.first_form.specs.declared.item.SourceItem.{SourceItem}

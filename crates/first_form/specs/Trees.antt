@@ -11,15 +11,15 @@ use Rattle.oc_source.specs.declared.parsed.StmtNode.TheVariants as st
 use Rattle.oc_source.specs.declared.parsed.Function.{Function}
 use Rattle.oc_cells.specs.declared.types.CType.{CType, Int, Pointer, Nothing}
 use Rattle.oc_cells.specs.declared.types.SlotType.{SlotType}
-use Rattle.oc_tree.specs.declared.typed.TExpr.{TExpr}
-use Rattle.oc_tree.specs.declared.typed.TPlace.{TPlace}
-use Rattle.oc_tree.specs.declared.typed.TExprNode.{TExprNode, Number, Read, AddressOf, Binary, Builtin}
-use Rattle.oc_tree.specs.declared.typed.PlaceNode.{Slot}
-use Rattle.oc_tree.specs.declared.typed.Builtin.TheVariants.{Private, Feed, Reveal, Print}
-use Rattle.oc_tree.specs.declared.typed.PrintPiece.TheVariants.{Text, Decimal}
-use Rattle.oc_tree.specs.declared.typed.TStmt.{TStmt}
-use Rattle.oc_tree.specs.declared.typed.TStmtNode.TheVariants.{Declare, Express}
-use Rattle.oc_tree.specs.declared.typed.TypedFunction.{TypedFunction}
+use Rattle.first_tree.specs.declared.typed.TExpr.{TExpr}
+use Rattle.first_tree.specs.declared.typed.TPlace.{TPlace}
+use Rattle.first_tree.specs.declared.typed.TExprNode.{TExprNode, Number, Read, AddressOf, Binary, Builtin}
+use Rattle.first_tree.specs.declared.typed.PlaceNode.{Slot}
+use Rattle.first_tree.specs.declared.typed.Builtin.TheVariants.{Private, Feed, Reveal, Print}
+use Rattle.first_tree.specs.declared.typed.PrintPiece.TheVariants.{Text, Decimal}
+use Rattle.first_tree.specs.declared.typed.TStmt.{TStmt}
+use Rattle.first_tree.specs.declared.typed.TStmtNode.TheVariants.{Declare, Express}
+use Rattle.first_tree.specs.declared.typed.TypedFunction.{TypedFunction}
 use Rattle.oc_source.specs.Parsed.{expr, stmt, int_base, field, declared}
 use Rattle.first_form.specs.Items.{Item, Feeds, Declares, Reveals, Prints, Summand, Named, same_bytes, declared_by}
 

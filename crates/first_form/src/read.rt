@@ -3,7 +3,7 @@
 ghost use Rattle.std.specs.Prelude.{◌≡◌, [], ◌∷◌, List, map, IfOk, IfSome, IfNone, MatchOption};
 ghost use Rattle.oc_source.specs.declared.spot.Spot.{Spot};
 ghost use Rattle.oc_source.specs.declared.parsed.Stmt.{Stmt};
-ghost use Rattle.oc_tree.specs.declared.program.Typed.{Typed};
+ghost use Rattle.first_tree.specs.declared.program.Typed.{Typed};
 ghost use Rattle.first_form.specs.Trees.{slot_type, function_with, main_with};
 ghost use Rattle.first_form.specs.Scope.{named};
 ghost use Rattle.first_form.specs.Bodies.{NoNext, IsNext, NoBody, IsBody, IsMain};
@@ -13,9 +13,9 @@ use crate::item::item;
 use crate::name::same;
 use crate::scope::{DeclaredName, declare};
 use crate::tree::{slot_type, statement};
+use first_tree::{TStmt, Typed, TypedFunction};
 use oc_cells::{CType, SlotType};
 use oc_source::parsed::{self, Function, Program};
-use oc_tree::{TStmt, Typed, TypedFunction};
 use oc_values::{Items, Name, NoMemory};
 use std::alloc::Global;
 

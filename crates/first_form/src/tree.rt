@@ -2,9 +2,9 @@
 
 ghost use Rattle.std.specs.Prelude.{◌≡◌, true, false, [], ◌∷◌, map, length, Some, None, IfOk, MatchOption, pos};
 ghost use Rattle.oc_cells.specs.declared.types.CType.{Pointer};
-ghost use Rattle.oc_tree.specs.declared.typed.TExpr.{TExpr};
-ghost use Rattle.oc_tree.specs.declared.typed.TStmt.{TStmt};
-ghost use Rattle.oc_tree.specs.declared.typed.TExprNode.{AddressOf, Binary};
+ghost use Rattle.first_tree.specs.declared.typed.TExpr.{TExpr};
+ghost use Rattle.first_tree.specs.declared.typed.TStmt.{TStmt};
+ghost use Rattle.first_tree.specs.declared.typed.TExprNode.{AddressOf, Binary};
 ghost use Rattle.first_form.specs.Trees.{slot_of, int_type, variable, reading, fed, pointing, declaring, calling, slot_type};
 ghost use Rattle.oc_source.specs.declared.parsed.Expr.{Expr};
 ghost use Rattle.first_form.specs.Items.{is_plus_or_minus};
@@ -13,12 +13,12 @@ ghost use Rattle.first_form.specs.Scope.{named as declared_name, Reads, HiddenRe
 use crate::item::{SourceFeed, SourceItem, SourceReveal};
 use crate::node::{SourceName, named};
 use crate::scope::{DeclaredName, is_known, is_new, slot_of};
+use first_tree::{
+    Builtin, PlaceNode, PrintPiece, TDeclared, TExpr, TExprNode, TPlace, TStmt, TStmtNode,
+};
 use oc_cells::{CType, SlotType};
 use oc_source::parsed::Expr;
 use oc_source::{Spot, parsed};
-use oc_tree::{
-    Builtin, PlaceNode, PrintPiece, TDeclared, TExpr, TExprNode, TPlace, TStmt, TStmtNode,
-};
 use oc_values::{BinaryOp, Boxed, IntKind, Items, Name, NoMemory, Shared};
 use std::alloc::Global;
 

@@ -26,7 +26,8 @@ times (suc n) f a = then (times n f a) (f n)
 abbrev pub row : {W : Type 0} → ℕ → (ℕ → Circuit W W) → Circuit W (List W)
 row n f = times n (λ i ws. then (f i) (λ w. give (ws ++ w ∷ []))) []
 
--- what a backend's own calls give: functions of the backend and the wires, and for an AND a relation of the backend before, its inputs, its wire and the backend after
+-- what a backend's own calls give: functions of the backend and the wires, and for an AND a relation of the backend before, its inputs,
+-- its wire and the backend after
 pub record Calls (S W : Type 0) : Type 1 where
   pub known_wire : S → Bool → W
   pub xor_wire : S → W → W → W

@@ -33,8 +33,10 @@ abbrev pub PlaysList : {S W : Type 0} → Calls S W → List Gate → List W →
 PlaysList m [] ws s vs t = (ws ≡ vs) × (s ≡ t)
 PlaysList m (gate_known b ∷ gs) ws s vs t = PlaysList m gs (ws ++ m.known_wire s b ∷ []) s vs t
 PlaysList {S} {W} m (gate_not i ∷ gs) ws s vs t = (a : W) × At ws i a × PlaysList m gs (ws ++ m.not_wire s a ∷ []) s vs t
-PlaysList {S} {W} m (gate_xor i j ∷ gs) ws s vs t = (a : W) × (b : W) × At ws i a × At ws j b × PlaysList m gs (ws ++ m.xor_wire s a b ∷ []) s vs t
-PlaysList {S} {W} m (gate_and i j ∷ gs) ws s vs t = (a : W) × (b : W) × (w : W) × (u : S) × At ws i a × At ws j b × m.and_is s a b w u × PlaysList m gs (ws ++ w ∷ []) u vs t
+PlaysList {S} {W} m (gate_xor i j ∷ gs) ws s vs t =
+    (a : W) × (b : W) × At ws i a × At ws j b × PlaysList m gs (ws ++ m.xor_wire s a b ∷ []) s vs t
+PlaysList {S} {W} m (gate_and i j ∷ gs) ws s vs t =
+    (a : W) × (b : W) × (w : W) × (u : S) × At ws i a × At ws j b × m.and_is s a b w u × PlaysList m gs (ws ++ w ∷ []) u vs t
 
 -- a list of gates with the numbers of its answer, played on the operands' wires: it gave the wires r
 unfoldable pub PlaysGates : {S W : Type 0} → Calls S W → List Gate × List ℕ → List W → S → List W → S → Type 0

@@ -10,7 +10,8 @@ HasRoom room s n = n ≤ room s
 abbrev pub Rises : ℕ → ℕ → ℕ → Type 0
 Rises before n after = after % 2 ^ 64 ≡ (before + n) % 2 ^ 64
 
--- each call gives a wire that stands for its function of the bits, and an AND leaves earlier wires as they stand, and known ones as they are
+-- each call gives a wire that stands for its function of the bits, and an AND leaves earlier wires as they stand, and known ones as
+-- they are
 pub record Laws {S W : Type 0} (m : Calls S W) (stands : S → W → Bool → Type 0) : Type 0 where
   pub known_stands : (s : S) (x : Bool) → stands s (m.known_wire s x) x
   pub not_stands : (s : S) (a : W) (x : Bool) → stands s a x → stands s (m.not_wire s a) (not x)

@@ -1,12 +1,12 @@
 -- Actions on memory add to what the domain keeps, and give back nothing that was spent.
-use Rattle.std.proofs.Common.{ℕ, zero, suc, ◌+◌, ◌-◌, ◌≤◌, ◌≡◌, ℤ, pos, negsuc, List, [], ◌∷◌, length, Option, Some, None, Result, Ok, Err, Bool, true, false, arith, refl}
+use Rattle.std.proofs.Common.{ℕ, zero, suc, ◌≤◌, ◌≡◌, ℤ, pos, negsuc, List, [], ◌∷◌, length, Option, Some, None, Result, Ok, Err, Bool, true, false, arith, refl}
 use Rattle.std.specs.Prelude.{nat_le, nat_lt, slice_get}
 use Rattle.oc_values.specs.declared.integers.IntKind.{IntKind}
 use Rattle.oc_values.specs.declared.integers.BinaryOp.{BinaryOp}
 use Rattle.oc_values.specs.declared.integers.OneOp.{OneOp}
 use Rattle.oc_values.specs.declared.integers.ZeroDivisor.{ZeroDivisor}
-use Rattle.oc_values.specs.Integers.{operate_public, kind_of_result, is_signed, width, is_in_bits}
-use Rattle.oc_values.specs.Kinds.{same_kind, is_shift, result_kind}
+use Rattle.oc_values.specs.Integers.{operate_public, kind_of_result}
+use Rattle.oc_values.specs.Kinds.{same_kind, result_kind}
 use Rattle.oc_values.specs.declared.integers.IntKind.TheVariants.{Bool as KBool}
 use Rattle.oc_cells.specs.declared.types.CType.{CType, Int as CInt, Pointer'}
 use Rattle.oc_cells.specs.declared.types.SlotType.{SlotType}
@@ -25,8 +25,8 @@ use Rattle.oc_walk.specs.declared.run.Source.{Source}
 use Rattle.oc_walk.specs.declared.run.Source.TheVariants.{Word, Public}
 use Rattle.oc_walk.specs.Domain.{Domain}
 use Rattle.oc_walk.specs.Walking.{Res, Go, Stop, Halt, Odd, after, bind, pure, odd, choose, still, stilled, own, answered, loads, keeps, stores, makes, takes_answer, answer, pays, transfers, spent, step, enter, block_of, live_limit, Known}
-use Rattle.oc_walk.specs.Cells.{signed_by, Goal, Only, V, M, S, valued, reads, fits_leaf, cell_of, puts, picks, writes_hidden, writes, gets, fetches, sets, follows, addressed, moves, same_places, checks, starts_copy, copies_cell, copied, nought, opens, allocates, frees, typed_slot, variable, slot}
-use Rattle.oc_walk.specs.Operations.{tests, condition, hidden_of, publicly_one, hiddenly_one, unaries, divided, publicly, hiddenly, operates, lifted, turns}
+use Rattle.oc_walk.specs.Cells.{signed_by, Goal, Only, V, M, S, valued, reads, fits_leaf, cell_of, puts, picks, writes_hidden, writes, gets, fetches, sets, follows, addressed, moves, same_places, checks, starts_copy, copied, nought, opens, allocates, frees, typed_slot, variable, slot}
+use Rattle.oc_walk.specs.Operations.{tests, condition, hidden_of, publicly_one, hiddenly_one, unaries, divided, publicly, hiddenly, operates, turns}
 use Rattle.oc_walk.specs.Exchange.{count_of, cost, counted, word, feeds, reveals, gives, known_word, public_word, prints}
 use Rattle.growing_runs.specs.Laws.{end_of}
 

@@ -1,31 +1,26 @@
 -- Calls and whole runs only add.
-use Rattle.std.proofs.Common.{ℕ, zero, suc, ◌≤◌, ◌≡◌, ℤ, List, [], ◌∷◌, ◌++◌, Option, Some, None, Bool, true, refl, sym, ap, ◌∙◌, arith}
+use Rattle.std.proofs.Common.{ℕ, zero, suc, ℤ, List, [], ◌∷◌, ◌++◌, Option, Some, None, Bool, true, refl, sym, ap, ◌∙◌, arith}
 use Rattle.std.specs.Prelude.{slice_get}
 use Rattle.std.proofs.lemmas.List.{append_assoc, append-nil}
 use Rattle.oc_values.specs.declared.integers.IntKind.{IntKind}
 use Rattle.oc_cells.specs.declared.types.CType.{CType}
 use Rattle.oc_cells.specs.declared.types.SlotType.{SlotType}
-use Rattle.oc_cells.specs.declared.types.StructType.{StructType}
 use Rattle.oc_cells.specs.declared.memory.Address.TheVariants.{At}
 use Rattle.oc_source.specs.declared.spot.Spot.{Spot}
 use Rattle.oc_typed.specs.declared.typed.TStmtNode.{Held-TStmtNode-If-2}
 use Rattle.oc_typed.specs.declared.typed.TypedFunction.{TypedFunction}
-use Rattle.oc_walk.specs.declared.run.Flow.{Flow}
 use Rattle.oc_walk.specs.declared.run.Named.{Named}
-use Rattle.oc_walk.specs.declared.run.ClearSetup.{ClearSetup}
-use Rattle.oc_walk.specs.declared.run.ShownItem.{ShownItem}
 use Rattle.oc_walk.specs.Domain.{Domain}
-use Rattle.oc_walk.specs.Walking.{State, Res, Go, Stop, finish, Known, Run, Site}
+use Rattle.oc_walk.specs.Walking.{Res, Go, Stop, finish, Run, Site}
 use Rattle.oc_walk.specs.Cells.{V, S}
 use Rattle.oc_walk.specs.Expressions.{Under}
 use Rattle.oc_walk.specs.Statements.{F}
 use Rattle.oc_walk.specs.Walk.{run_of, nowhere, returned, called, params, invokes, found, Skips, calls, start}
-use Rattle.oc_meanings.specs.Clear.{clear, no_skip, known_of, clear_walk}
-use Rattle.oc_meanings.specs.Events.{Operand, Entry, events, events_walk}
-use Rattle.growing_runs.specs.Laws.{end_of, Extends, Later, WalksOnlyAdd, RunsStayInBudget}
-use Rattle.growing_runs.proofs.Adding.{Adds, Spent, Goes, as_is, spent_more, seq, answers, stops, puts_goes, opens_goes, typed_goes}
-use Rattle.growing_runs.proofs.Exprs.{Calls}
-use Rattle.growing_runs.proofs.Stmts.{Around, listed_goes}
+use Rattle.oc_meanings.specs.Clear.{clear, no_skip, known_of}
+use Rattle.oc_meanings.specs.Events.{Operand, Entry, events}
+use Rattle.growing_runs.specs.Laws.{end_of, Extends, WalksOnlyAdd, RunsStayInBudget}
+use Rattle.growing_runs.proofs.Adding.{Adds, Spent, Goes, spent_more, seq, answers, stops, puts_goes, opens_goes, typed_goes}
+use Rattle.growing_runs.proofs.Stmts.{listed_goes}
 
 module _ (D : Domain) (R : D.Own → D.Own → Type 0) (adds : Adds D R) where
   params_goes : (vs : List (V D)) (p : Spot) (lss : List (List CType)) (slots : List SlotType) (n : ℕ) → Goes D R (params D p lss slots n vs)

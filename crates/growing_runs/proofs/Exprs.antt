@@ -1,9 +1,8 @@
 -- Expressions and places only add.
-use Rattle.std.proofs.Common.{ℕ, pos, List, [], ◌∷◌, length, Bool, true, false, not, ◌&&◌}
+use Rattle.std.proofs.Common.{ℕ, List, [], ◌∷◌, Bool, true, false, not, ◌&&◌}
 use Rattle.oc_values.specs.declared.integers.IntKind.{IntKind}
 use Rattle.oc_values.specs.declared.integers.IntKind.TheVariants.{Bool as KBool, I32}
 use Rattle.oc_values.specs.declared.integers.BinaryOp.{BinaryOp}
-use Rattle.oc_values.specs.Integers.{wrap}
 use Rattle.oc_values.specs.Kinds.{same_kind, is_minus}
 use Rattle.oc_cells.specs.declared.types.CType.{CType, Int as CInt}
 use Rattle.oc_cells.specs.declared.memory.Address.{Address}
@@ -18,13 +17,12 @@ use Rattle.oc_typed.specs.declared.typed.Builtin.TheVariants.{Private, Feed, Rev
 use Rattle.oc_typed.specs.Static.{spot_of, type_of, working_kind}
 use Rattle.oc_walk.specs.declared.run.Source.{Source}
 use Rattle.oc_walk.specs.Domain.{Domain}
-use Rattle.oc_walk.specs.Walking.{Res, Stop, bind, pure, choose, still, Site, deeper, lighter}
+use Rattle.oc_walk.specs.Walking.{Res, Site, deeper, lighter}
 use Rattle.oc_walk.specs.Cells.{Goal, Only, V, S}
-use Rattle.oc_walk.specs.Operations.{operates, tests, turns}
 use Rattle.oc_walk.specs.Exchange.{formatted}
 use Rattle.oc_walk.specs.Builtins.{on_none, on_one, on_two, on_some, source_of, performs}
 use Rattle.oc_walk.specs.Expressions.{Under, stepping, converted, turned, copies, assigns, initializes, readied, renewed, both_or_one, decided, solely, expr, place, place_one, one, exprs, whole, tested}
-use Rattle.growing_runs.proofs.Adding.{Adds, Goes, seq, lift, answers, stops, chosen, puts_goes, writes_goes, gets_goes, fetches_goes, sets_goes, follows_goes, addressed_goes, moves_goes, same_goes, tests_goes, unaries_goes, operates_goes, turns_goes, starts_goes, copied_goes, allocates_goes, frees_goes, feeds_goes, reveals_goes, gives_goes, public_goes, prints_goes, slot_goes}
+use Rattle.growing_runs.proofs.Adding.{Adds, Goes, seq, answers, stops, chosen, puts_goes, writes_goes, gets_goes, fetches_goes, sets_goes, follows_goes, addressed_goes, moves_goes, same_goes, tests_goes, unaries_goes, operates_goes, turns_goes, starts_goes, copied_goes, allocates_goes, frees_goes, feeds_goes, reveals_goes, gives_goes, public_goes, prints_goes, slot_goes}
 
 module _ (D : Domain) (R : D.Own → D.Own → Type 0) (adds : Adds D R) where
   abbrev Fine : {A : Type 0} → (S D → Res (S D) A) → Type 0

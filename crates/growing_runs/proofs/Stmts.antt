@@ -1,5 +1,5 @@
 -- Statements only add.
-use Rattle.std.proofs.Common.{ℕ, zero, suc, ◌-◌, List, [], ◌∷◌, length, Option, Some, None, Bool, true, false, arith}
+use Rattle.std.proofs.Common.{ℕ, zero, suc, ◌-◌, List, [], ◌∷◌, length, Option, Some, None, Bool, arith}
 use Rattle.std.specs.Prelude.{slice_get}
 use Rattle.oc_values.specs.declared.integers.IntKind.TheVariants.{Bool as KBool}
 use Rattle.oc_cells.specs.declared.types.CType.{CType}
@@ -15,12 +15,12 @@ use Rattle.oc_walk.specs.declared.run.Flow.{Flow}
 use Rattle.oc_walk.specs.declared.run.Flow.TheVariants.{Next, Break as Broke, Continue as Continued, Back}
 use Rattle.oc_walk.specs.declared.run.Value.TheVariants.{Hidden}
 use Rattle.oc_walk.specs.Domain.{Domain, Parts, AllOf, FirstOf, SecondOf}
-use Rattle.oc_walk.specs.Walking.{Res, Go, Stop, still, own, close, leave, scoped, step, Site, deeper}
+use Rattle.oc_walk.specs.Walking.{Res, Go, Stop, close, leave, scoped, Site, deeper}
 use Rattle.oc_walk.specs.Cells.{S}
 use Rattle.oc_walk.specs.Expressions.{Under, under}
-use Rattle.oc_walk.specs.Statements.{started, declares, declares_all, proceed, ended, turn, again, loop, header, tested_or, advances, gives_back, parted, both, node, part, stmts, other, stepped, listed}
+use Rattle.oc_walk.specs.Statements.{started, declares, declares_all, proceed, ended, turn, again, loop, header, tested_or, advances, gives_back, parted, both, node, part, stmts, other, listed}
 use Rattle.growing_runs.specs.Laws.{end_of}
-use Rattle.growing_runs.proofs.Adding.{Adds, Spent, Goes, as_is, spent_more, seq, lift, owns, answers, stops, chosen, puts_goes, condition_goes, opens_goes, typed_goes, step_goes}
+use Rattle.growing_runs.proofs.Adding.{Adds, Spent, Goes, spent_more, seq, lift, owns, answers, stops, chosen, puts_goes, condition_goes, opens_goes, typed_goes, step_goes}
 use Rattle.growing_runs.proofs.Exprs.{Calls, whole_goes, tested_goes, initializes_goes}
 
 module _ (D : Domain) (R : D.Own → D.Own → Type 0) (adds : Adds D R) where

@@ -1,15 +1,14 @@
 -- What both parties see of a run is what its events and its revealed values show.
-use Rattle.std.proofs.Common.{ℕ, zero, suc, ◌≡◌, ℤ, List, [], ◌∷◌, length, map, refl, sym, ap, ◌∙◌, subst, arith}
-use Rattle.oc_values.specs.declared.integers.IntKind.{IntKind}
+use Rattle.std.proofs.Common.{ℕ, suc, ◌≡◌, ℤ, List, [], ◌∷◌, length, map, refl, sym, ap, ◌∙◌, subst, arith}
 use Rattle.oc_walk.specs.declared.run.ShownItem.{ShownItem}
 use Rattle.oc_walk.specs.declared.run.ShownItem.TheVariants.{Print as Printed, Reveal as Revealed, Give as Given}
 use Rattle.oc_walk.specs.declared.run.Outcome.{Outcome}
 use Rattle.oc_walk.specs.declared.run.Value.{Value}
 use Rattle.oc_walk.specs.Walking.{State, Res, Go, Stop, Ended, Needs, Odd}
-use Rattle.oc_meanings.specs.Clear.{known_of, Clear}
+use Rattle.oc_meanings.specs.Clear.{known_of}
 use Rattle.oc_meanings.specs.Events.{Operand, Entry, Feed, Op, One, Turn, ShiftBy, Pick, Reveal, Give, Print, events_walk}
 use Rattle.oc_meanings.specs.Values.{values, items_of, revealed_of, ShowsEnd}
-use Rattle.oc_meanings.specs.Public.{Seen, seen, SamePublic, PublicRunsAgree}
+use Rattle.oc_meanings.specs.Public.{seen, PublicRunsAgree}
 use Rattle.joined_runs.proofs.Agree.{length-values, shows}
 
 heads : (n m : ℤ) (ns ms : List ℤ) → n ∷ ns ≡ m ∷ ms → n ≡ m

@@ -27,6 +27,10 @@ pub status_only : (e : Output) (line : List ℕ) (status result : ℕ) → Said 
 status_only e line status result (inl said) = inl said.0
 status_only e line status result (inr none) = inr none
 
+pub memory_only : (e : Output) (line : List ℕ) (result : ℕ) → Said e line 10 result → result ≡ 10
+memory_only e line result (inl said) = said.0
+memory_only e line result (inr none) = none
+
 -- a call that said its usage line
 pub by_usage : (c : Call) (k status : ℕ) → Usage c.words k → c.out.after ≡ c.out.before → Said c.err (usage_line k) 2 status → Answered c status
 by_usage c k status u same (inl said) = usage said.0 (k, u, same, said.1)

@@ -7,7 +7,7 @@ use Rattle.std.proofs.Common.{pos, negsuc, SFits, w64}
 use Rattle.std.specs.Prelude.{IsTrue}
 use Rattle.std.proofs.lemmas.Bool.{ltb-true, cases_lt}
 use Rattle.oc_values.specs.Integers.{is_in_bits}
-use Rattle.oc_tree.specs.declared.program.Typed.{Typed}
+use Rattle.first_tree.specs.declared.program.Typed.{Typed}
 use Rattle.oc_source.specs.declared.spot.Spot.{Spot}
 use Rattle.oc_lexer.specs.declared.token.LexRule.TheVariants.{L6}
 use Rattle.oc_lexer.specs.Places.{spot_after}

@@ -7,8 +7,8 @@ use Rattle.oc_outside.specs.Told.{appended, appended-appended}
 use Rattle.oc_outside.specs.Sinks.{OnDone, OnEndFailed, UnlessDone}
 use Rattle.oc_outside.specs.declared.sinks.PutEnd.{PutEnd}
 use Rattle.oc_outside.specs.declared.sinks.PutEnd.TheVariants.{Done, Failed, NoMemory}
-use Rattle.oc_tree.specs.declared.run.ShownItem.{ShownItem}
-use Rattle.oc_tree.specs.Shown.{shown, shown_item}
+use Rattle.first_tree.specs.declared.run.ShownItem.{ShownItem}
+use Rattle.first_tree.specs.Shown.{shown, shown_item}
 use Rattle.oblivc_main.specs.Endings.{Printed}
 
 shown-append : (xs ys : List ShownItem) → shown (xs ++ ys) ≡ shown xs ++ shown ys
@@ -56,21 +56,23 @@ module _ (items : List ShownItem) (i : ℕ) (item : ShownItem) (first before_fau
             ∙ ap (λ bytes. appended bytes start) r.2,
       )
 
-  rose_before : first ≤ before_faults → Rose before_faults after_faults → Rose first after_faults
-  rose_before le rose = omega (arith, le, rose)
+  rose_before : before_faults ≡ first → Rose before_faults after_faults → Rose first after_faults
+  rose_before same rose = omega (arith, same, rose)
 
-  pub failed_all : i < length items → item ≡ get_or items i item → first ≤ before_faults → before ≡ appended (shown (take i items)) start → Printed (shown_item item) Failed before_faults after_faults before after → Printed (shown items) Failed first after_faults start after
-  failed_all lt is le b p = record {
-    never_falls = omega (arith, le, p.never_falls);
+  pub failed_all : i < length items → item ≡ get_or items i item → before_faults ≡ first → before ≡ appended (shown (take i items)) start → Printed (shown_item item) Failed before_faults after_faults before after → Printed (shown items) Failed first after_faults start after
+  failed_all lt is same b p = record {
+    never_falls = omega (arith, same, p.never_falls);
     done = tt;
-    failed = rose_before le p.failed;
+    failed = rose_before same p.failed;
+    no_fault = tt;
     refused = front_written lt is b p.refused;
   }
 
-  pub spent_all : i < length items → item ≡ get_or items i item → first ≤ before_faults → before ≡ appended (shown (take i items)) start → Printed (shown_item item) NoMemory before_faults after_faults before after → Printed (shown items) NoMemory first after_faults start after
-  spent_all lt is le b p = record {
-    never_falls = omega (arith, le, p.never_falls);
+  pub spent_all : i < length items → item ≡ get_or items i item → before_faults ≡ first → before ≡ appended (shown (take i items)) start → Printed (shown_item item) NoMemory before_faults after_faults before after → Printed (shown items) NoMemory first after_faults start after
+  spent_all lt is same b p = record {
+    never_falls = omega (arith, same, p.never_falls);
     done = tt;
     failed = tt;
+    no_fault = p.no_fault ∙ same;
     refused = front_written lt is b p.refused;
   }

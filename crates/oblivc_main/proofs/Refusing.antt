@@ -2,7 +2,7 @@
 use Rattle.std.proofs.Common.{ℕ, ◌≡◌, List, sym, ap, ◌∙◌, subst, refl}
 use Rattle.oc_source.specs.declared.spot.Spot.{Spot}
 use Rattle.oc_source.specs.declared.parsed.Program.{Program}
-use Rattle.oc_tree.specs.declared.program.Typed.{Typed}
+use Rattle.first_tree.specs.declared.program.Typed.{Typed}
 use Rattle.oc_lexer.specs.declared.token.Token.{Token}
 use Rattle.oc_lexer.specs.declared.token.Lexed.{Lexed}
 use Rattle.oc_lexer.specs.declared.token.LexRule.{LexRule}

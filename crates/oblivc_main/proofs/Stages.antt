@@ -1,10 +1,10 @@
 -- Reading the files of a call, one after another, and running the program.
 use Rattle.std.proofs.Common.{ℕ, ◌+◌, ◌≡◌, ◌≤◌, List, [], Option, Result, Ok, Err, refl, sym, ap, ◌∙◌, subst, arith, inl, inr, ℤ, w64, to_z, of_z}
 use Rattle.std.proofs.lemmas.Int.{to_z-of_z}
-use Rattle.oc_tree.specs.declared.run.ShownItem.{ShownItem}
-use Rattle.oc_tree.specs.declared.outcome.Outcome.{Outcome}
-use Rattle.oc_tree.specs.declared.program.Typed.{Typed}
-use Rattle.oc_tree.specs.Clear.{Clear}
+use Rattle.first_tree.specs.declared.run.ShownItem.{ShownItem}
+use Rattle.first_tree.specs.declared.outcome.Outcome.{Outcome}
+use Rattle.first_tree.specs.declared.program.Typed.{Typed}
+use Rattle.first_tree.specs.Clear.{Clear}
 use Rattle.clear_run.specs.declared.run.ClearRun.{ClearRun}
 use Rattle.first_form.proofs.EndingItems.{ends_done}
 use Rattle.oblivc_main.proofs.Files.{input_fits}

@@ -2,15 +2,16 @@
 use Rattle.std.specs.Prelude.{ℕ, ◌≡◌, ◌≤◌, ℤ, List, [], ◌∷◌, length, take, Option, Result, Ok, Err, ◌⊎◌}
 use Rattle.oc_outside.specs.Counts.{Rose}
 use Rattle.oc_outside.specs.Told.{appended}
-use Rattle.oc_outside.specs.Sinks.{OnDone, OnEndFailed, UnlessDone}
+use Rattle.oc_outside.specs.Sinks.{OnDone, OnEndFailed, UnlessDone, UnlessEndFailed}
 use Rattle.oc_outside.specs.declared.sinks.PutEnd.{PutEnd}
-use Rattle.oc_tree.specs.declared.run.ShownItem.{ShownItem}
-use Rattle.oc_tree.specs.declared.run.ClearSetup.{ClearSetup}
-use Rattle.oc_tree.specs.declared.outcome.Outcome.TheVariants.{Done}
-use Rattle.oc_tree.specs.declared.program.Typed.{Typed}
-use Rattle.oc_tree.specs.Clear.{Clear}
-use Rattle.oc_tree.specs.Shown.{shown}
+use Rattle.first_tree.specs.declared.run.ShownItem.{ShownItem}
+use Rattle.first_tree.specs.declared.run.ClearSetup.{ClearSetup}
+use Rattle.first_tree.specs.declared.outcome.Outcome.TheVariants.{Done}
+use Rattle.first_tree.specs.declared.program.Typed.{Typed}
+use Rattle.first_tree.specs.Clear.{Clear}
+use Rattle.first_tree.specs.Shown.{shown}
 use Rattle.clear_run.specs.declared.run.ClearRun.{ClearRun}
+use Rattle.dealt_transfer.specs.Halves.{most_transfers}
 use Rattle.oblivc_main.specs.Reading.{Told, Accepts, Refuses, HasWord, HasNoWord, Unreadable}
 use Rattle.oblivc_main.specs.declared.stop.Stop.{Stop}
 use Rattle.oblivc_main.specs.declared.stop.Stop.TheVariants.{Refused, Unread, WrongInput, Unwritten, NoMemory}
@@ -19,7 +20,7 @@ use Rattle.oblivc_main.specs.declared.stop.Which.TheVariants.{Source, First, Sec
 
 -- a run of one word of each party, with all the transfers and steps that there may be
 abbrev pub setup_of : ℤ → ℤ → ClearSetup
-setup_of first second = record { public = []; first = first ∷ []; second = second ∷ []; dealt = 1048576; budget = 1000000000 }
+setup_of first second = record { public = []; first = first ∷ []; second = second ∷ []; dealt = most_transfers; budget = 1000000000 }
 
 -- the files of a call: what the vault tells of each name, its faults before and after, the name that failed last, and
 -- the names of the source and of the inputs of both parties
@@ -49,9 +50,9 @@ pub record Shows (f : Files) (items : List ShownItem) : Type 0 where
   pub second_input : HasWord f.told f.second second_word
   pub meaning : Clear tree (setup_of first_word second_word) items Done
 
--- all that the program shows was printed
+-- all that the program shows was printed, and no fault rose
 abbrev pub PrintsAll : Files → Output → Type 0
-PrintsAll f o = (items : List ShownItem) × Shows f items × (o.after ≡ appended (shown items) o.before)
+PrintsAll f o = (items : List ShownItem) × Shows f items × (o.after ≡ appended (shown items) o.before) × (o.faults_after ≡ o.faults_before)
 
 -- nothing was printed
 abbrev pub PrintsNothing : Output → Type 0
@@ -121,9 +122,10 @@ ReadWord told before after failed name which (Err (WrongInput other)) = (other �
 ReadWord told before after failed name which (Err NoMemory) = Unit {0}
 ReadWord told before after failed name which (Err _) = ⊥
 
--- these bytes were printed, or a front of them where the sink refused; the faults never fell
+-- these bytes were printed, or a front of them where the sink refused; the faults never fell, and rose only where it failed
 pub record Printed (bytes : List ℕ) (r : PutEnd) (faults_before faults_after : ℕ) (before after : Option (List ℕ)) : Type 0 where
   pub never_falls : faults_before ≤ faults_after
   pub done : OnDone r (after ≡ appended bytes before)
   pub failed : OnEndFailed r (Rose faults_before faults_after)
+  pub no_fault : UnlessEndFailed r (faults_after ≡ faults_before)
   pub refused : UnlessDone r ((n : ℕ) × (n ≤ length bytes) × (after ≡ appended (take n bytes) before))

@@ -1,7 +1,7 @@
 -- What the files of a command hold, as far as a vault tells it, and what that means for the command.
 use Rattle.std.specs.Prelude.{ℕ, ◌≡◌, ℤ, List, Option, Some, None, IfSome, ◌⊎◌}
 use Rattle.oc_outside.specs.Counts.{Rose}
-use Rattle.oc_tree.specs.declared.program.Typed.{Typed}
+use Rattle.first_tree.specs.declared.program.Typed.{Typed}
 use Rattle.oblivc_main.specs.declared.stop.Refusal.{Refusal}
 use Rattle.oblivc_main.specs.Sources.{IsAccepted, IsRefused}
 use Rattle.oblivc_main.specs.Inputs.{IsInput}

@@ -4,6 +4,7 @@ ghost use Rattle.std.specs.Prelude.{◌≡◌, ◌≤◌, ◌-◌, ◌^◌, ◌<
 ghost use Rattle.oblivc_main.specs.Statuses.{Served};
 
 use crate::program::{oblivcc, refuse_words};
+use crate::saying::say_memory;
 use oc_outside::{Dialer, Sink, Vault};
 use std::alloc::Global;
 use std::env::{Env, FillError};
@@ -98,6 +99,6 @@ pub fn serve_process<R: Env, V: Vault, D: Dialer, S: Sink, E: Sink>(
     match read_words(alloc, env) {
         Words::All(words) => oblivcc(alloc, words.as_slice(), files, dialer, out, err),
         Words::UpTo(words) => refuse_words(alloc, words.as_slice(), err),
-        Words::NoMemory => 10,
+        Words::NoMemory => say_memory(err),
     }
 }

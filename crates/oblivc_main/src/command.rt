@@ -1,20 +1,18 @@
 //! The command `clear`.
 
 ghost use Rattle.std.specs.Prelude.{◌≡◌, ◌≤◌, [], ◌∷◌, IfOk};
-ghost use Rattle.oc_tree.specs.Clear.{Clear};
+ghost use Rattle.first_tree.specs.Clear.{Clear};
 ghost use Rattle.oblivc_main.specs.Endings.{Ends, Runs, setup_of};
 
 use crate::printing::print_all;
 use crate::reading::{read_source, read_word};
 use crate::stop::{Stop, Which};
 use clear_run::{ClearRun, run_first};
+use dealt_transfer::MOST_TRANSFERS;
+use first_tree::{ClearSetup, Typed};
 use oc_outside::{PutEnd, Sink, Vault};
-use oc_tree::{ClearSetup, Typed};
 use oc_values::{Items, NoMemory};
 use std::alloc::Global;
-
-/// How many transfers are dealt: as many as a session may have.
-const DEALT: u32 = 1_048_576;
 
 /// How many steps a run may take.
 const BUDGET: u64 = 1_000_000_000;
@@ -36,7 +34,7 @@ fn run_words(alloc: Global, typed: &Typed, first: i64, second: i64) -> Result<Cl
         public: Items::new(alloc),
         first: one_word(alloc, first)?,
         second: one_word(alloc, second)?,
-        dealt: DEALT,
+        dealt: MOST_TRANSFERS,
         budget: BUDGET,
     };
     run_first(alloc, typed, &setup)

@@ -9,7 +9,8 @@ ghost use Rattle.oblivc_main.specs.DealEndings.{DealEnds, IsFileOf, PutEnds};
 ghost use Rattle.oblivc_main.specs.Statuses.{DealAnswered, Said, deal_line_of, deal_status_of};
 
 use crate::deal_words::DealWords;
-use crate::saying::{NO_MEMORY, line_for_file, say, say_line};
+use crate::saying::{line_for_file, say_line, say_memory};
+use crate::statuses::{DONE, FILE};
 use dealt_transfer::{deal, write_receiver_half, write_sender_half};
 use oc_outside::{Sink, Vault, WriteAnswer};
 use oc_values::{Items, NoMemory};
@@ -99,17 +100,13 @@ pub fn report_deal<E: Sink>(alloc: Global, stop: DealStop, words: &DealWords<'_>
     }) (deal_line_of (deal_of words.now) stop) (deal_status_of stop) result }
 {
     match stop {
-        DealStop::Unwritten(DealFile::FirstFile) => say_line(
-            err,
-            line_for_file(alloc, words.first),
-            5,
-        ),
-        DealStop::Unwritten(DealFile::SecondFile) => say_line(
-            err,
-            line_for_file(alloc, words.second),
-            5,
-        ),
-        DealStop::NoMemory => say(err, "memory\n", NO_MEMORY),
+        DealStop::Unwritten(DealFile::FirstFile) => {
+            say_line(err, line_for_file(alloc, words.first), FILE)
+        }
+        DealStop::Unwritten(DealFile::SecondFile) => {
+            say_line(err, line_for_file(alloc, words.second), FILE)
+        }
+        DealStop::NoMemory => say_memory(err),
     }
 }
 
@@ -136,7 +133,7 @@ pub fn run_deal<V: Vault, E: Sink>(
     ensures elsewhere { (n : List ℕ) → (IsFileOf (deal_of words.now) n → ⊥) → V.contents files.new n ≡ V.contents files.old n }
 {
     match write_deal(alloc, words, files) {
-        Ok(()) => 0,
+        Ok(()) => DONE,
         Err(stop) => report_deal(alloc, stop, words, err),
     }
 }

@@ -9,10 +9,8 @@ ghost use Rattle.oblivc_main.specs.declared.deal_words.DealOption.{DealOption as
 
 use crate::inputs::decimal;
 use crate::words::word;
+use dealt_transfer::MOST_TRANSFERS;
 use hex::FromHex;
-
-/// How many transfers are dealt at most.
-const MOST: u128 = 1_048_576;
 
 /// An option of `deal`.
 #[derive(Clone, Copy, Debug, PartialEq, Eq)]
@@ -76,7 +74,7 @@ fn count_of(word: &[u8]) -> Option<u32>
         return None;
     }
     match decimal(word) {
-        Some(count) if count <= MOST => Some(count as u32),
+        Some(count) if count <= u128::from(MOST_TRANSFERS) => Some(count as u32),
         _ => None,
     }
 }

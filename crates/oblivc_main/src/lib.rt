@@ -25,6 +25,7 @@ mod printing;
 mod program;
 mod reading;
 mod saying;
+mod statuses;
 mod stop;
 mod words;
 

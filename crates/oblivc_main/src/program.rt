@@ -10,12 +10,10 @@ use crate::commands::find_misfit;
 use crate::deal::run_deal;
 use crate::deal_words::{is_deal, read_deal};
 use crate::saying::{line_for_usage, report, say_line};
+use crate::statuses::{DONE, USAGE};
 use crate::words::{find_fault, word};
 use oc_outside::{Dialer, Sink, Vault};
 use std::alloc::Global;
-
-/// The status for words that aren't a command.
-const USAGE: u8 = 2;
 
 /// Says that words aren't a command, where the word after them isn't text: no command begins with that one,
 /// if with those before it.
@@ -104,7 +102,7 @@ pub fn oblivcc<V: Vault, D: Dialer, S: Sink, E: Sink>(
     let first = word(words, 3);
     let second = word(words, 5);
     match clear(alloc, source, first, second, files, out) {
-        Ok(()) => 0,
+        Ok(()) => DONE,
         Err(stop) => report(alloc, stop, source, first, second, err),
     }
 }

@@ -8,11 +8,11 @@ ghost use Rattle.oblivc_main.specs.Endings.{ReadSource, ReadWord};
 use crate::inputs::read_input;
 use crate::stop::{Refusal, Rule, Stop, Which};
 use first_form::read_first;
+use first_tree::Typed;
 use oc_lexer::{LexFault, lex};
 use oc_outside::{FileAnswer, Vault};
 use oc_parser::{ParseFault, parse};
 use oc_source::Spot;
-use oc_tree::Typed;
 use std::alloc::Global;
 
 /// How many bytes of a source are read: one more than it may have.

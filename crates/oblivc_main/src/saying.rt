@@ -1,17 +1,15 @@
 //! The line on the error stream.
 
 ghost use Rattle.std.specs.Prelude.{◌≡◌, ℕ, List, IfOk, string_bytes};
-ghost use Rattle.oblivc_main.specs.Lines.{usage_line, rule_name, refused_line, file_line};
+ghost use Rattle.oblivc_main.specs.Lines.{usage_line, rule_name, refused_line, file_line, memory_line};
 ghost use Rattle.oblivc_main.specs.Statuses.{Said, line_of, status_of};
 
+use crate::statuses::{FILE, INPUT, NO_MEMORY, OUTPUT, REFUSED};
 use crate::stop::{Refusal, Rule, Stop, Which};
 use oc_lexer::LexRule;
 use oc_outside::{PutEnd, Sink, write_all};
 use oc_parser::ParseRule;
 use std::alloc::{AllocError, Global};
-
-/// The status for want of memory.
-pub const NO_MEMORY: u8 = 10;
 
 /// The line for words that aren't a command.
 pub fn line_for_usage(alloc: Global, k: usize) -> Result<String, AllocError>
@@ -70,7 +68,20 @@ pub fn say<E: Sink>(err: &mut E, line: &str, status: u8) -> u8
     }
 }
 
-/// Writes a line that may have found no memory.
+/// Says that memory is wanting, which takes none itself, and answers the status for that.
+pub fn say_memory<E: Sink>(err: &mut E) -> u8
+    ensures said { Said (record {
+      faults_before = E.faults err.old;
+      faults_after = E.faults err.new;
+      before = E.written err.old;
+      after = E.written err.new;
+    }) memory_line 10 result }
+    ensures status { result ≡ 10 }
+{
+    say(err, "memory\n", NO_MEMORY)
+}
+
+/// Writes a line that may have found no memory; then `memory` is written in its place.
 pub fn say_line<E: Sink>(err: &mut E, line: Result<String, AllocError>, status: u8) -> u8
     ensures { (wanted : List ℕ) → IfOk line (λ text. string_bytes text ≡ wanted) → Said (record {
       faults_before = E.faults err.old;
@@ -81,7 +92,7 @@ pub fn say_line<E: Sink>(err: &mut E, line: Result<String, AllocError>, status: 
 {
     match line {
         Ok(text) => say(err, text.as_str(), status),
-        Err(_) => NO_MEMORY,
+        Err(_) => say_memory(err),
     }
 }
 
@@ -102,17 +113,17 @@ pub fn report<E: Sink>(
     }) (line_of source.now first.now second.now stop) (status_of stop) result }
 {
     match stop {
-        Stop::Refused(refusal) => say_line(err, line_for_refusal(alloc, refusal), 1),
+        Stop::Refused(refusal) => say_line(err, line_for_refusal(alloc, refusal), REFUSED),
         Stop::Unread(which) => {
             let name = match which {
                 Which::Source => source,
                 Which::First => first,
                 Which::Second => second,
             };
-            say_line(err, line_for_file(alloc, name), 5)
+            say_line(err, line_for_file(alloc, name), FILE)
         }
-        Stop::WrongInput(_) => say(err, "input 1\n", 9),
-        Stop::Unwritten => say(err, "output\n", 11),
-        Stop::NoMemory => say(err, "memory\n", NO_MEMORY),
+        Stop::WrongInput(_) => say(err, "input 1\n", INPUT),
+        Stop::Unwritten => say(err, "output\n", OUTPUT),
+        Stop::NoMemory => say_memory(err),
     }
 }

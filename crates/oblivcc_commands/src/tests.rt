@@ -358,113 +358,95 @@ const CHANGED: &[(&str, [&str; 3])] = &[
     ),
 ];
 
-/// The number that `usage` gives, or none where the words are a command, and the words.
-const ROWS: &[(&str, &str)] = &[
-    ("3", "run a.oc --role 3"),
-    ("1", "run"),
-    ("2", "run a.oc"),
-    ("1", "clear"),
-    ("-", "clear a.oc"),
-    ("2", "clear a.oc --input3"),
-    ("1", "sample"),
-    ("-", "sample 0 1"),
-    ("-", "sample 18446744073709551615 1"),
-    ("1", "sample 18446744073709551616 1"),
-    ("2", "sample 7 0"),
-    ("2", "sample 7 4097"),
-    ("1", "sample 07 1"),
-    ("2", "sample 7 01"),
-    ("1", "sample -1 1"),
-    ("1", "sample +7 1"),
-    ("3", "sample 7 1 1"),
-    ("1", "sample  1"),
-    ("-", "clear --input1 --input1 --input2"),
-    ("-", "clear a.oc --input1 --input2 --input2 --input1"),
-    ("-", "clear a.oc --input2 y --input1 x"),
-    ("2", "clear a.oc --input1=x"),
-    ("2", "clear a.oc x --input1"),
-    ("3", "clear a.oc --steps 0"),
-    ("-", "clear a.oc --steps 1000000000"),
-    ("3", "clear a.oc --steps 1000000001"),
-    ("3", "clear a.oc --steps 05"),
-    ("3", "clear a.oc --steps"),
-    ("3", "clear a.oc --steps "),
-    ("-", "clear a.oc --dealt 1048576"),
-    ("3", "clear a.oc --dealt 1048577"),
-    ("3", "clear a.oc --dealt 00"),
-    ("4", "clear a.oc --public 1 --public 1"),
-    ("3", "clear a.oc --public 1,2,"),
-    ("3", "clear a.oc --public ,1"),
-    ("3", "clear a.oc --public "),
-    ("3", "clear a.oc --public -"),
-    ("-", "clear a.oc --public -0"),
-    ("-", "clear a.oc --public 007"),
-    ("4", "clear a.oc --public 1 2"),
-    (
-        "-",
-        "clear a.oc --public 9223372036854775807,-9223372036854775808",
-    ),
-    ("3", "clear a.oc --public 9223372036854775808"),
-    ("3", "clear a.oc --public -9223372036854775809"),
-    ("3", "clear a.oc --public 1,,2"),
-    ("3", "clear a.oc --public 1;2"),
-    ("3", "clear a.oc --public --steps"),
-    ("3", "shape a.oc --count1 65537"),
-    ("-", "shape a.oc --reveal 1,0,1"),
-    ("2", "shape a.oc --input1 x"),
-    ("3", "shape a.oc --protocol 0"),
-    ("3", "shape a.oc --protocol 4"),
-    (
-        "7",
-        "deal --key 00112233445566778899aabbccddeeff00112233445566778899AABBCCDDEEFF --count 8 --out1 s",
-    ),
-    (
-        "-",
-        "deal --out2 --out1 --out1 --out2 --count 0 --key 00112233445566778899aabbccddeeff00112233445566778899AABBCCDDEEFF",
-    ),
-    (
-        "2",
-        "deal --key 0112233445566778899aabbccddeeff00112233445566778899AABBCCDDEEFF",
-    ),
-    (
-        "2",
-        "deal --key 00112233445566778899aabbccddeeff00112233445566778899AABBCCDDEEFF0",
-    ),
-    (
-        "2",
-        "deal --key g0112233445566778899aabbccddeeff00112233445566778899AABBCCDDEEFF",
-    ),
-    ("1", "deal a.oc"),
-    ("2", "deal --count 1048577"),
-    ("2", "deal --count -1"),
-    ("-", "run a.oc --role 1 --listen x --half h"),
-    ("-", "run a.oc --role 1 --connect x --half h"),
-    ("6", "run a.oc --role 1 --half h"),
-    ("4", "run a.oc --listen x --connect"),
-    ("4", "run a.oc --connect x --listen"),
-    ("6", "run a.oc --listen x --half h"),
-    ("6", "run a.oc --role 1 --listen x"),
-    ("4", "run a.oc --role 1 --pool"),
-    ("5", "run a.oc --pool 5 --role 1"),
-    ("6", "run a.oc --pool 5 --role 2"),
-    ("4", "run a.oc --protocol 3 --pool"),
-    ("5", "run a.oc --pool 5 --protocol 3"),
-    ("3", "run a.oc --pool 0"),
-    ("-", "run a.oc --half --role --role 2 --connect --half"),
-    ("4", "run a.oc --role 1 --role 2"),
-    ("4", "duet a.oc --half1 s"),
-    ("-", "duet a.oc --half2 r --half1 s"),
-    ("6", "duet a.oc --half1 s --half2 r --dealt 5"),
-    ("1", "check"),
-    ("-", "check --help"),
-    ("0", "--help"),
-    ("2", "check a.oc b.oc"),
-    ("0", "checks a.oc"),
-    ("2", "audit a.oc"),
-    ("3", "audit a.oc t --input1 x"),
-    ("1", "lower"),
-    ("0", "serve a.oc"),
-];
+/// A row a line: the number that `usage` gives, or `-` where the words are a command, and the words.
+const ROWS: &str = "3 run a.oc --role 3
+1 run
+2 run a.oc
+1 clear
+- clear a.oc
+2 clear a.oc --input3
+1 sample
+- sample 0 1
+- sample 18446744073709551615 1
+1 sample 18446744073709551616 1
+2 sample 7 0
+2 sample 7 4097
+1 sample 07 1
+2 sample 7 01
+1 sample -1 1
+1 sample +7 1
+3 sample 7 1 1
+1 sample  1
+- clear --input1 --input1 --input2
+- clear a.oc --input1 --input2 --input2 --input1
+- clear a.oc --input2 y --input1 x
+2 clear a.oc --input1=x
+2 clear a.oc x --input1
+3 clear a.oc --steps 0
+- clear a.oc --steps 1000000000
+3 clear a.oc --steps 1000000001
+3 clear a.oc --steps 05
+3 clear a.oc --steps
+3 clear a.oc --steps 
+- clear a.oc --dealt 1048576
+3 clear a.oc --dealt 1048577
+3 clear a.oc --dealt 00
+4 clear a.oc --public 1 --public 1
+3 clear a.oc --public 1,2,
+3 clear a.oc --public ,1
+3 clear a.oc --public 
+3 clear a.oc --public -
+- clear a.oc --public -0
+- clear a.oc --public 007
+4 clear a.oc --public 1 2
+- clear a.oc --public 9223372036854775807,-9223372036854775808
+3 clear a.oc --public 9223372036854775808
+3 clear a.oc --public -9223372036854775809
+3 clear a.oc --public 1,,2
+3 clear a.oc --public 1;2
+3 clear a.oc --public --steps
+3 shape a.oc --count1 65537
+- shape a.oc --reveal 1,0,1
+2 shape a.oc --input1 x
+3 shape a.oc --protocol 0
+3 shape a.oc --protocol 4
+7 deal --key 00112233445566778899aabbccddeeff00112233445566778899AABBCCDDEEFF --count 8 --out1 s
+- deal --out2 --out1 --out1 --out2 --count 0 --key 00112233445566778899aabbccddeeff00112233445566778899AABBCCDDEEFF
+2 deal --key 0112233445566778899aabbccddeeff00112233445566778899AABBCCDDEEFF
+2 deal --key 00112233445566778899aabbccddeeff00112233445566778899AABBCCDDEEFF0
+2 deal --key g0112233445566778899aabbccddeeff00112233445566778899AABBCCDDEEFF
+1 deal a.oc
+2 deal --count 1048577
+2 deal --count -1
+- run a.oc --role 1 --listen x --half h
+- run a.oc --role 1 --connect x --half h
+6 run a.oc --role 1 --half h
+4 run a.oc --listen x --connect
+4 run a.oc --connect x --listen
+6 run a.oc --listen x --half h
+6 run a.oc --role 1 --listen x
+4 run a.oc --role 1 --pool
+5 run a.oc --pool 5 --role 1
+6 run a.oc --pool 5 --role 2
+4 run a.oc --protocol 3 --pool
+5 run a.oc --pool 5 --protocol 3
+3 run a.oc --pool 0
+- run a.oc --half --role --role 2 --connect --half
+4 run a.oc --role 1 --role 2
+4 duet a.oc --half1 s
+- duet a.oc --half2 r --half1 s
+6 duet a.oc --half1 s --half2 r --dealt 5
+1 check
+- check --help
+0 --help
+2 check a.oc b.oc
+0 checks a.oc
+2 audit a.oc
+3 audit a.oc t --input1 x
+1 lower
+0 serve a.oc
+- clear a.oc --public -0000000000000000001
+3 clear a.oc --public 00000000000000000001";
 
 /// The same of serving.
 const SERVING_CHANGED: (&str, [&str; 3]) = (
@@ -476,20 +458,15 @@ const SERVING_CHANGED: (&str, [&str; 3]) = (
     ],
 );
 
-const SERVING_ROWS: &[(&str, &str)] = &[
-    (
-        "-",
-        "serve a.oc --listen h --half f --each 1048576 --sessions 1",
-    ),
-    ("3", "serve a.oc --each 0"),
-    ("3", "serve a.oc --each 1048577"),
-    ("3", "serve a.oc --sessions 9"),
-    ("3", "serve a.oc --sessions 0"),
-    ("3", "serve a.oc --protocol 3"),
-    ("8", "serve a.oc --listen h --half f --each 1"),
-    ("0", "clear a.oc"),
-    ("2", "serve a.oc --connect h"),
-];
+const SERVING_ROWS: &str = "- serve a.oc --listen h --half f --each 1048576 --sessions 1
+3 serve a.oc --each 0
+3 serve a.oc --each 1048577
+3 serve a.oc --sessions 9
+3 serve a.oc --sessions 0
+3 serve a.oc --protocol 3
+8 serve a.oc --listen h --half f --each 1
+0 clear a.oc
+2 serve a.oc --connect h";
 
 fn words_of(alloc: Global, line: &str) -> Result<Vec<String>, Fail> {
     let mut words = Vec::new(alloc);
@@ -551,10 +528,13 @@ fn wrong_change(
 }
 
 /// The first row that isn't answered by its number, or `NONE`.
-fn wrong_row(alloc: Global, table: &[Command<()>], rows: &[(&str, &str)]) -> Result<u64, Fail>
+fn wrong_row(alloc: Global, table: &[Command<()>], rows: &str) -> Result<u64, Fail>
     requires { IsTrue (is_sound (commands_of table.now)) }
 {
-    for (at, (number, line)) in rows.iter().enumerate() {
+    for (at, row) in rows.split('\n').enumerate() {
+        let Some((number, line)) = row.split_once(' ') else {
+            return Ok(at as u64);
+        };
         let words = words_of(alloc, line)?;
         let expected = number_to(NONE, number.as_bytes()).unwrap_or(NONE);
         if fault_of(table, words.as_slice()) != expected {

@@ -17,6 +17,7 @@ appended-nil (Some list) = ap Some (append-nil list)
 appended-nil None = refl
 
 -- two pieces, one after the other, are one
-pub appended-appended : {A : Type 0} (first second : List A) (told : Option (List A)) → appended second (appended first told) ≡ appended (first ++ second) told
+pub appended-appended : {A : Type 0} (first second : List A) (told : Option (List A))
+    → appended second (appended first told) ≡ appended (first ++ second) told
 appended-appended first second (Some list) = ap Some (append_assoc list first second)
 appended-appended first second None = refl

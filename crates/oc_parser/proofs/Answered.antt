@@ -1,5 +1,5 @@
 -- What an answer says of the tokens.
-use Rattle.std.proofs.Common.{◌≡◌, ℕ, List, [], ◌++◌, length, drop, refl, sym, ◌∙◌, ap, append-nil, subst, arith}
+use Rattle.std.proofs.Common.{◌≡◌, ℕ, ◌≤◌, List, [], ◌++◌, length, drop, refl, sym, ◌∙◌, ap, append-nil, subst, arith}
 use Rattle.std.proofs.Math.Logic.{⊎_elim}
 use Rattle.std.proofs.Math.Nat.{eq-or-lt_of_le}
 use Rattle.std.proofs.lemmas.Bool.{cases_lt}
@@ -81,6 +81,10 @@ module _ (lexed : Lexed) where
   grammar_refuses rest light f =
       let fault = is_fault (Whole lexed.end) AtEnd (λ w. refl) lexed.tokens rest f in
       (light, (length f.front, same_fault whole_derives derives_whole lexed.tokens (length f.front) fault, (let e : drop (length f.front) lexed.tokens ≡ rest = ap (λ x. drop (length f.front) x) f.whole ∙ drop_front f.front rest in sym (ap (spot_from lexed.end) e))))
+
+  -- the first load that is too large
+  pub heavy_refuses : (spot : Spot) → (p : ℕ) × HeavyAt lexed.tokens p × ((end : Spot) → spot ≡ place_spot end lexed.tokens p) → HasNoTree lexed G2 spot
+  heavy_refuses spot h = (h.0, h.1, h.2 lexed.end)
 
   -- a program without a load that is too large is not refused
   pub not_refused : (p : Program) (rule : ParseRule) (spot : Spot) → Derives p lexed.tokens → IsLight lexed.tokens → HasNoTree lexed rule spot → ⊥

@@ -7,7 +7,7 @@ ghost use Rattle.oc_parser.specs.Load.{total};
 use oc_values::Items;
 
 /// What a token does to the stack.
-#[derive(Clone, Copy, Debug, PartialEq, Eq)]
+#[derive(Clone, Copy)]
 pub enum Effect {
     /// `(` or `[`
     Open,
@@ -23,14 +23,14 @@ pub enum Effect {
 }
 
 /// How many tokens an entry counts, and how many brackets are open in it.
-#[derive(Clone, Copy, Debug, PartialEq, Eq)]
+#[derive(Clone, Copy)]
 pub struct Entry {
     pub count: u32,
     pub opened: u32,
 }
 
 /// The stack: its top entry, those below it with the nearest one last, and the sum of all counts.
-#[derive(Debug, Drop)]
+#[derive(Drop)]
 pub struct Counts {
     pub top: Entry,
     pub below: Items<Entry>,

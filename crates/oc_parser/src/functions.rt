@@ -16,7 +16,7 @@ use oc_values::Items;
 use std::alloc::Global;
 
 /// What stands between the result of a function and its body.
-#[derive(Debug, Drop)]
+#[derive(Drop)]
 pub struct Heading {
     pub named: Named,
     pub params: Items<Param>,

@@ -17,7 +17,7 @@ use oc_source::parsed::{BaseKind, BaseName, Function, StructDef, TypeName};
 use std::alloc::Global;
 
 /// A part of a program.
-#[derive(Debug, Drop)]
+#[derive(Drop)]
 pub enum Part {
     Struct(StructDef),
     Function(Function),

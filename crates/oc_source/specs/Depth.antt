@@ -94,7 +94,8 @@ param_depth p = p.stars + 1
 
 -- of a function: the greatest of its result, its parameters and its body
 abbrev pub function_depth : Function → ℕ
-function_depth f = max (option_map_or type_depth f.result 0) (max (greatest (map param_depth f.params)) (option_map_or stmts_depth f.body 0))
+function_depth f =
+    max (option_map_or type_depth f.result 0) (max (greatest (map param_depth f.params)) (option_map_or stmts_depth f.body 0))
 
 -- of a program: the greatest of its structs and its functions
 abbrev pub depth : Program → ℕ

@@ -1,30 +1,20 @@
-//! The typed tree of a program of the first form, what a run holds, and what a program means.
+//! The trees of a program and what it means, handed on from the crates in which they stand.
 //!
-//! Sources and their parsed trees stand in `oc_source`, types and memory in `oc_cells`; both are handed on here. What
-//! stands in `specs/`, one subject a file:
-//!
-//! - `Domain`, `Walking`, `Walk`: the walk of a typed tree over any domain of hidden values.
-//! - `Clear`: the domain whose hidden values are plain integers, and with it the clear meaning.
-//! - `Shown`: the bytes that shown items are printed as, and the status of an outcome.
-//! - `Typing`: when a typed tree is well typed, which its type keeps.
+//! A source's parsed tree is that of `oc_source`, types and memory are those of `oc_cells`, the typed tree is that of
+//! `oc_typed` and, well typed, of `oc_typing`. What a typed program means stands in `oc_walk` and `oc_meanings`, whose
+//! definitions contracts cite where they stand.
 #![tactic(auto)]
 
-pub mod outcome;
-pub mod program;
-pub mod run;
-pub mod typed;
-
 pub use oc_cells::{
-    Address, Block, CType, Cell, CellValue, FieldType, Leaf, Row, SlotType, StructType, TrapKind,
+    Address, Block, CType, Cell, CellValue, FieldType, SlotType, StructType, TrapKind,
 };
-pub use oc_source::{Literal, Spot, parsed};
+pub use oc_source::{Literal, Program, Spot, parsed};
+pub use oc_typed::{
+    Builtin, PrintPiece, TDeclared, TExpr, TExprNode, TForInit, TPlace, TPlaceNode, TStmt,
+    TStmtNode, TypedFunction,
+};
+pub use oc_typing::Typed;
 pub use oc_values::{
-    BinaryOp, Boxed, IntKind, Items, Name, NoMemory, Shared, ZeroDivisor, convert, public_op, wrap,
+    BinaryOp, IntKind, Items, Name, NoMemory, OneOp, ZeroDivisor, convert, public_op, wrap,
 };
-pub use outcome::Outcome;
-pub use program::Typed;
-pub use run::{ClearSetup, Flow, Named, ShownItem, Source, Value};
-pub use typed::{
-    Builtin, PlaceNode, PrintPiece, TDeclared, TExpr, TExprNode, TPlace, TStmt, TStmtNode,
-    TypedFunction,
-};
+pub use oc_walk::{ClearSetup, Flow, Outcome, ShownItem, Value};

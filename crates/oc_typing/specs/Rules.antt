@@ -1,16 +1,15 @@
 -- Tests of the types at the nodes of a typed tree, a rule each, and of a program's structs.
 use Rattle.std.specs.Prelude.{ℕ, suc, ◌+◌, ℤ, List, [], ◌∷◌, ◌++◌, length, max, nat_eq, nat_le, Bool, true, false, ◌&&◌, ◌||◌, not, if◌then◌else◌, Option, Some, None, slice_get, slice_index_or}
 use Rattle.oc_values.specs.declared.integers.IntKind.{IntKind}
-use Rattle.oc_values.specs.declared.integers.IntKind.TheVariants.{Bool as KBool, I8, U8, I16, U16, I32, U32, I64, U64}
+use Rattle.oc_values.specs.declared.integers.IntKind.TheVariants.{Bool as KBool, I8, I16, I32, I64}
 use Rattle.oc_values.specs.declared.integers.BinaryOp.{BinaryOp}
 use Rattle.oc_values.specs.declared.integers.BinaryOp.TheVariants.{Add, Less, LessEq, Greater, GreaterEq, Equal, NotEqual}
 use Rattle.oc_values.specs.declared.integers.OneOp.{OneOp}
 use Rattle.oc_values.specs.declared.integers.OneOp.TheVariants.{Not}
-use Rattle.oc_values.specs.Integers.{is_in_bits, is_signed, width, kind_of_result}
-use Rattle.oc_values.specs.Kinds.{number_of_kind, same_kind, promoted, is_shift, is_minus, result_kind, one_kind}
+use Rattle.oc_values.specs.Integers.{is_in_bits, is_signed, width}
+use Rattle.oc_values.specs.Kinds.{number_of_kind, same_kind, promoted, is_shift, is_minus}
 use Rattle.oc_cells.specs.declared.types.CType.{CType, Int, Pointer', Array', Struct, Nothing, Row_of-CType, end_of-CType, more_of-CType}
 use Rattle.oc_cells.specs.declared.types.FieldType.{FieldType}
-use Rattle.oc_cells.specs.declared.types.SlotType.{SlotType}
 use Rattle.oc_cells.specs.declared.types.StructType.{StructType}
 use Rattle.oc_cells.specs.Types.{alike, same, is_normal, is_pointer, is_frozen_pointer, first_type, target}
 use Rattle.oc_cells.specs.Layout.{cells, field_cells}

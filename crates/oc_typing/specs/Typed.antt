@@ -1,8 +1,8 @@
 -- When a typed tree is well typed: a test of the tree alone.
-use Rattle.std.specs.Prelude.{ℕ, zero, suc, ℤ, pos, negsuc, List, [], ◌∷◌, ◌++◌, length, map, take, nat_eq, nat_le, Bool, true, false, ◌&&◌, ◌||◌, not, Option, Some, None, slice_get, codes}
+use Rattle.std.specs.Prelude.{ℕ, suc, ℤ, pos, negsuc, List, [], ◌∷◌, ◌++◌, length, map, take, nat_eq, nat_le, Bool, true, false, ◌&&◌, ◌||◌, not, Option, Some, None, slice_get, codes}
 use Rattle.oc_values.specs.declared.integers.IntKind.{IntKind}
 use Rattle.oc_values.specs.declared.integers.IntKind.TheVariants.{Bool as KBool, I32}
-use Rattle.oc_cells.specs.declared.types.CType.{CType, Int, Pointer', Array', Nothing, Row_of-CType, more_of-CType, end_of-CType}
+use Rattle.oc_cells.specs.declared.types.CType.{CType, Int, Pointer', Array', Row_of-CType, more_of-CType, end_of-CType}
 use Rattle.oc_cells.specs.declared.types.SlotType.{SlotType}
 use Rattle.oc_cells.specs.declared.types.StructType.{StructType}
 use Rattle.oc_cells.specs.Types.{same, is_pointer, target, public_structs}

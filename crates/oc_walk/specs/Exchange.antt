@@ -15,7 +15,7 @@ use Rattle.oc_walk.specs.declared.run.Source.{Source}
 use Rattle.oc_walk.specs.declared.run.Source.TheVariants.{Word, Public}
 use Rattle.oc_walk.specs.Domain.{Domain}
 use Rattle.oc_walk.specs.Walking.{Act, bind, pure, trap, odd, choose, own, answer, transfers, Known}
-use Rattle.oc_walk.specs.Cells.{V, M, A}
+use Rattle.oc_walk.specs.Cells.{V, M}
 use Rattle.oc_walk.specs.Operations.{hidden_of}
 
 -- how many private words the party of this number has

@@ -20,7 +20,7 @@ use Rattle.oc_typed.specs.declared.typed.TExprNode.{TExprNode, Number, NullPoint
 use Rattle.oc_typed.specs.declared.typed.TPlaceNode.{TPlaceNode, Slot, Deref', Index', Field', Row_of-TPlace, more_of-TPlace}
 use Rattle.oc_typed.specs.declared.typed.TStmtNode.{Held-TStmtNode-If-2}
 use Rattle.oc_typed.specs.Static.{spot_of, type_of, working_kind}
-use Rattle.oc_walk.specs.declared.run.Value.TheVariants.{Int, Pointer, Hidden}
+use Rattle.oc_walk.specs.declared.run.Value.TheVariants.{Int, Pointer}
 use Rattle.oc_walk.specs.Domain.{Domain}
 use Rattle.oc_walk.specs.Walking.{bind, pure, choose, still, ahead, Site, deeper, lighter}
 use Rattle.oc_walk.specs.Cells.{Goal, Only, gets, fetches, sets, V, A, puts, writes, follows, moves, same_places, starts_copy, copied, slot}

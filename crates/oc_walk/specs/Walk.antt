@@ -13,7 +13,7 @@ use Rattle.oc_walk.specs.declared.run.Value.TheVariants.{Int, Pointer, Hidden, N
 use Rattle.oc_walk.specs.declared.run.Flow.TheVariants.{Back}
 use Rattle.oc_walk.specs.declared.run.Named.{Named}
 use Rattle.oc_walk.specs.Domain.{Domain}
-use Rattle.oc_walk.specs.Walking.{Res, Go, Stop, bind, pure, trap, odd, still, own, finish, Known, Run, Site}
+use Rattle.oc_walk.specs.Walking.{Res, Go, Stop, bind, pure, trap, odd, still, finish, Known, Run, Site}
 use Rattle.oc_walk.specs.Cells.{V, S, A, puts, opens, typed_slot}
 use Rattle.oc_walk.specs.Expressions.{Under}
 use Rattle.oc_walk.specs.Statements.{F, listed}

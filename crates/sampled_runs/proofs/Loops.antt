@@ -19,7 +19,7 @@ use Rattle.oc_walk.specs.declared.run.Outcome.TheVariants.{Done}
 use Rattle.oc_walk.specs.Walking.{Needs}
 use Rattle.oc_meanings.specs.Clear.{Clear}
 use Rattle.oc_meanings.specs.Events.{Fix, Of, Feed, Op, One, Pick, Reveal, Print, events_walk}
-use Rattle.oc_meanings.proofs.Building.{at, here, hid, bit, int, ex, pl, num, var, set, to, bin, st, decl, feed, reveal, of_type, main}
+use Rattle.oc_meanings.proofs.Building.{here, hid, bit, int, ex, pl, num, var, set, to, bin, st, decl, feed, reveal, of_type, main}
 use Rattle.sampled_runs.proofs.Small.{words, known, entries, halted, shows, shows_two, element, pointer, led_by}
 
 -- for (int i = 0; i < k; i = i + 1) s = s + i;, where k is a revealed value

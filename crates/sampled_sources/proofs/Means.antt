@@ -1,5 +1,5 @@
 -- What a source that the rules accept means.
-use Rattle.std.proofs.Common.{◌≡◌, ℤ, List, Result, Ok, Err}
+use Rattle.std.proofs.Common.{◌≡◌, ℤ, List, Ok, Err, true}
 use Rattle.oc_walk.specs.declared.run.ShownItem.{ShownItem}
 use Rattle.oc_walk.specs.declared.run.ClearSetup.{ClearSetup}
 use Rattle.oc_walk.specs.declared.run.Value.{Value}
@@ -9,6 +9,7 @@ use Rattle.oc_walk.specs.Walking.{State, Res, Go, Stop, Ended, Needs, Odd}
 use Rattle.oc_meanings.specs.Clear.{Clear, known_of}
 use Rattle.oc_meanings.specs.Events.{Operand, Entry, events_walk}
 use Rattle.oc_typing.specs.declared.program.Typed.{Typed}
+use Rattle.oc_typing.specs.Typed.{is_typed}
 use Rattle.type_rules.specs.Judging.{Judged}
 
 -- a source that the rules accept shows these items in the clear and ends so
@@ -28,3 +29,8 @@ abbrev pub Makes : Judged Typed → ClearSetup → List ℤ → List Entry → O
 Makes (Ok t) setup rev es outcome =
     Ends (events_walk t.structs t.functions t.entry (known_of setup) setup.dealt rev setup.budget) es outcome
 Makes (Err f) setup rev es outcome = ⊥
+
+-- the typed tree that the rules give it is well typed
+abbrev pub Passes : Judged Typed → Type 0
+Passes (Ok t) = is_typed t.structs t.functions t.entry ≡ true
+Passes (Err f) = ⊥

@@ -1,24 +1,22 @@
 -- Calls of the language's own.
-use Rattle.std.proofs.Common.{ℕ, ◌≡◌, List, [], ◌∷◌, length, refl, sym, ap, ◌∙◌, subst, Bool, true, false}
-use Rattle.std.specs.Prelude.{◌&&◌, ◌||◌, not, nat_le}
+use Rattle.std.proofs.Common.{ℕ, ◌≡◌, List, [], ◌∷◌, length, refl, sym, subst, Bool, true, false}
+use Rattle.std.specs.Prelude.{◌&&◌, not, nat_le}
 use Rattle.oc_values.specs.declared.integers.IntKind.{IntKind}
 use Rattle.oc_values.specs.declared.integers.IntKind.TheVariants.{I32, I64}
 use Rattle.oc_cells.specs.declared.types.CType.{CType, Int, Nothing}
 use Rattle.oc_cells.specs.declared.types.StructType.{StructType}
 use Rattle.oc_cells.specs.Types.{same, is_pointer, is_frozen_pointer, target}
 use Rattle.oc_cells.specs.Layout.{struct_cells, struct_leaves}
-use Rattle.oc_typed.specs.declared.typed.TExprNode.{TExprNode, Convert', Builtin', Row_of-TExpr, end_of-TExpr, more_of-TExpr}
+use Rattle.oc_typed.specs.declared.typed.TExprNode.{Convert', Builtin', Row_of-TExpr, end_of-TExpr, more_of-TExpr}
 use Rattle.oc_typed.specs.declared.typed.Builtin.{Builtin}
 use Rattle.oc_typed.specs.declared.typed.Builtin.TheVariants.{Private, Feed, Reveal, Give, PrivateCount, PublicCount, PublicWord, Print, Calloc, Malloc, Free}
-use Rattle.oc_typed.specs.declared.typed.PrintPiece.{PrintPiece}
 use Rattle.oc_typed.specs.Static.{type_of, types_of}
 use Rattle.oc_walk.specs.declared.run.Source.{Source}
 use Rattle.oc_walk.specs.declared.run.Source.TheVariants.{Word, Public}
 use Rattle.oc_walk.specs.Builtins.{source_of}
-use Rattle.oc_typing.specs.Rules.{is_sized, is_nothing, is_public, is_shown, is_party, address, same_all, formats, text_bytes, one_public, none_or_one, made, one_pointer, revealed, builtin}
-use Rattle.oc_typing.specs.Typed.{is_fed, ends, are_fed, fed_by}
+use Rattle.oc_typing.specs.Rules.{is_public, is_shown, is_party, text_bytes, one_public, none_or_one, made, one_pointer, revealed, builtin}
+use Rattle.oc_typing.specs.Typed.{is_fed, are_fed, fed_by}
 use Rattle.typed_runs.specs.Shapes.{Sized, PublicOk, public_ok, BuiltinOk, private_ok, word_ok, fed_ok, reveal_ok, give_ok, count_ok, counts_ok, known_word_ok, print_ok, calloc_ok, malloc_ok, mallocs_ok, free_ok}
-use Rattle.typed_runs.specs.Shapes as shapes
 use Rattle.sound_runs.proofs.Bools.{first, second, kept, never, all2, all3, all4}
 use Rattle.sound_runs.proofs.Rules.{sized_right, nothing_is, public_right, address_right, same_all_is, formats_right}
 use Rattle.oc_cells.proofs.Equal.{same_is}

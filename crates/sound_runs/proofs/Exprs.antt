@@ -1,11 +1,10 @@
 -- Well typed expressions have the shapes that walks want.
-use Rattle.std.proofs.Common.{ℕ, zero, suc, ◌≡◌, List, [], ◌∷◌, map, Option, Some, None, refl, sym, ap, ◌∙◌, subst, Bool, true, false, nat_eq}
+use Rattle.std.proofs.Common.{ℕ, zero, suc, ◌≡◌, List, [], ◌∷◌, Some, ap, ◌∙◌, Bool, true, false}
 use Rattle.std.specs.Prelude.{◌&&◌, ◌||◌, not, slice_get}
 use Rattle.oc_values.specs.declared.integers.IntKind.TheVariants.{I32}
 use Rattle.oc_cells.specs.declared.types.CType.{CType, Int}
-use Rattle.oc_cells.specs.declared.types.SlotType.{SlotType}
 use Rattle.oc_cells.specs.declared.types.StructType.{StructType}
-use Rattle.oc_cells.specs.Types.{same, is_pointer, target, public_structs}
+use Rattle.oc_cells.specs.Types.{is_pointer, target, public_structs}
 use Rattle.oc_cells.specs.Layout.{struct_cells, struct_leaves}
 use Rattle.oc_cells.proofs.Equal.{same_is}
 use Rattle.oc_typed.specs.declared.typed.TExprNode.{TExprNode, Number, NullPointer, Read', AddressOf', Decay', Unary', Binary', PointerStep', PointerSame', Logic', Choose', Assign', Update', Convert', Call', Builtin', Row_of-TExpr, end_of-TExpr, more_of-TExpr}
@@ -13,12 +12,11 @@ use Rattle.oc_typed.specs.declared.typed.TPlaceNode.{TPlaceNode, Slot, Deref', I
 use Rattle.oc_typed.specs.declared.typed.TypedFunction.{TypedFunction}
 use Rattle.oc_typed.specs.Static.{type_of, types_of}
 use Rattle.oc_typed.specs.Visible.{is_among}
-use Rattle.oc_typing.specs.Rules.{is_type, is_public, is_common, is_held, field, step, builtin}
-use Rattle.oc_typing.specs.Typed.{Context, context, param_types, has_type, call, is_feed, is_private, fed_by, is_of_node, expr, place, place_one, one, exprs, is_unit}
-use Rattle.typed_runs.specs.Shapes.{Heading, Env, Held, ExprOk, PlaceOk, PlaceOneOk, OneOk, AllOk}
-use Rattle.typed_runs.specs.Shapes as shapes
-use Rattle.sound_runs.specs.Laws.{heading, headings}
-use Rattle.sound_runs.proofs.Bools.{first, second, kept, never, all2, all3, all4, all5, all6, all7}
+use Rattle.oc_typing.specs.Rules.{is_type, is_common, is_held, field}
+use Rattle.oc_typing.specs.Typed.{Context, context, param_types, has_type, call, is_feed, is_private, is_of_node, expr, place, place_one, one, exprs, is_unit}
+use Rattle.typed_runs.specs.Shapes.{Env, Held, ExprOk, PlaceOk, PlaceOneOk, OneOk, AllOk}
+use Rattle.sound_runs.specs.Laws.{headings}
+use Rattle.sound_runs.proofs.Bools.{first, kept, never, all2, all3, all4, all5, all6, all7}
 use Rattle.sound_runs.proofs.Rules.{held_right, null_right, public_right, number_right, address_right, decay_right, unary_right, binary_right, step_right, logic_right, update_right, convert_right, alike_pointers_right, same_all_is}
 use Rattle.sound_runs.proofs.Builtins.{builtin_right}
 

@@ -1,6 +1,6 @@
 -- Well typed programs have the shapes that walks want.
-use Rattle.std.proofs.Common.{ℕ, zero, suc, ◌+◌, ◌≡◌, List, [], ◌∷◌, length, map, take, Option, Some, None, refl, sym, ap, ◌∙◌, subst, Bool, true, false, nat_eq, arith}
-use Rattle.std.specs.Prelude.{◌&&◌, ◌||◌, not, nat_le, slice_get, codes}
+use Rattle.std.proofs.Common.{ℕ, zero, suc, ◌+◌, ◌≡◌, List, [], ◌∷◌, length, take, Some, refl, sym, ap, ◌∙◌, subst, Bool, true, nat_eq, arith}
+use Rattle.std.specs.Prelude.{not, nat_le, slice_get, codes}
 use Rattle.oc_cells.specs.declared.types.CType.{CType, Int, Pointer', Array', Struct, Nothing}
 use Rattle.oc_cells.specs.declared.types.SlotType.{SlotType}
 use Rattle.oc_cells.specs.declared.types.StructType.{StructType}
@@ -8,16 +8,15 @@ use Rattle.oc_cells.specs.Types.{public_structs}
 use Rattle.oc_cells.specs.Layout.{struct_cells, struct_leaves}
 use Rattle.oc_typed.specs.declared.typed.TypedFunction.{TypedFunction}
 use Rattle.oc_typed.specs.Visible.{after_params}
-use Rattle.oc_typing.specs.Rules.{all, is_type, is_nothing, is_leaf, same_name, differ, struct_names, are_structs}
-use Rattle.oc_typing.specs.Typed.{context, slot_types, param_types, slots_in_all, count_up, is_slot, is_result, stmts, function, is_entry, function_names, is_typed}
+use Rattle.oc_typing.specs.Rules.{all, is_leaf, same_name, differ, struct_names, are_structs}
+use Rattle.oc_typing.specs.Typed.{context, slot_types, param_types, slots_in_all, count_up, is_slot, is_result, stmts, function, is_entry, function_names}
 use Rattle.typed_runs.specs.Shapes.{Heading}
-use Rattle.typed_runs.specs.Statements as shapes
-use Rattle.typed_runs.specs.Statements.{ParamOk, ParamsOk, IsResult, FunctionOk, ListOk}
+use Rattle.typed_runs.specs.Statements.{ParamsOk, IsResult, FunctionOk}
 use Rattle.typed_runs.proofs.Calls.{never_odd}
-use Rattle.sound_runs.specs.Laws.{heading, headings, Right, TypedTreesAreRight, TypedNeverOdd}
-use Rattle.sound_runs.proofs.Bools.{first, second, kept, never, all2, all3, all4, all5, all6}
+use Rattle.sound_runs.specs.Laws.{heading, headings, TypedTreesAreRight, TypedNeverOdd}
+use Rattle.sound_runs.proofs.Bools.{first, second, kept, never, all2, all4, all5, all6}
 use Rattle.sound_runs.proofs.Rules.{leaf_right, nothing_is}
-use Rattle.sound_runs.proofs.Stmts.{none_some, some_is, all_at, stmts_right}
+use Rattle.sound_runs.proofs.Stmts.{none_some, some_is, stmts_right}
 
 -- these slots stand from a number on
 abbrev Stand : List SlotType → ℕ → List SlotType → Type 0

@@ -1,28 +1,25 @@
 -- The tests of types give the shapes that walks want.
-use Rattle.std.proofs.Common.{ℕ, zero, suc, ◌≡◌, ℤ, List, [], ◌∷◌, ◌++◌, length, map, Option, Some, None, refl, sym, ap, ◌∙◌, subst, Bool, true, false, nat_eq, arith}
+use Rattle.std.proofs.Common.{ℕ, zero, suc, ◌≡◌, ℤ, List, [], ◌∷◌, ◌++◌, refl, sym, ap, ◌∙◌, subst, Bool, true, false, nat_eq, arith}
 use Rattle.std.specs.Prelude.{◌&&◌, ◌||◌, not, nat_le, slice_get, if◌then◌else◌}
-use Rattle.std.proofs.lemmas.Bool.{false≢true}
 use Rattle.oc_values.specs.declared.integers.IntKind.{IntKind}
-use Rattle.oc_values.specs.declared.integers.IntKind.TheVariants.{Bool as KBool, I8, U8, I16, U16, I32, U32, I64, U64}
+use Rattle.oc_values.specs.declared.integers.IntKind.TheVariants.{Bool as KBool, I32}
 use Rattle.oc_values.specs.declared.integers.BinaryOp.{BinaryOp}
 use Rattle.oc_values.specs.declared.integers.BinaryOp.TheVariants.{Less, LessEq, Greater, GreaterEq, Equal, NotEqual}
 use Rattle.oc_values.specs.declared.integers.OneOp.{OneOp}
 use Rattle.oc_values.specs.Integers.{kind_of_result}
-use Rattle.oc_values.specs.Kinds.{number_of_kind, same_kind, promoted, is_shift, is_minus, result_kind}
+use Rattle.oc_values.specs.Kinds.{number_of_kind, same_kind, promoted, is_shift, result_kind}
 use Rattle.oc_cells.specs.declared.types.CType.{CType, Int, Pointer', Array', Struct, Nothing, Row_of-CType, end_of-CType, more_of-CType}
 use Rattle.oc_cells.specs.declared.types.FieldType.{FieldType}
 use Rattle.oc_cells.specs.declared.types.StructType.{StructType}
-use Rattle.oc_cells.specs.Types.{alike, same, is_normal, is_pointer, is_frozen_pointer, target, IsLeaf}
-use Rattle.oc_cells.specs.Layout.{cells, struct_cells, or_none, repeated, leaves, leaves_row, field_leaves, leaves_after, struct_leaves}
+use Rattle.oc_cells.specs.Types.{same, is_normal, is_pointer, is_frozen_pointer, target, IsLeaf}
+use Rattle.oc_cells.specs.Layout.{struct_cells, or_none, repeated, leaves, leaves_row, field_leaves, leaves_after, struct_leaves}
 use Rattle.oc_cells.proofs.Equal.{same_is}
-use Rattle.oc_cells.proofs.Freezing.{alike_is}
 use Rattle.oc_cells.proofs.Lengths.{length_in}
 use Rattle.oc_cells.specs.Types.{AreLeaves}
-use Rattle.oc_source.specs.declared.spot.Spot.{Spot}
 use Rattle.oc_typed.specs.declared.typed.PrintPiece.{PrintPiece}
 use Rattle.oc_typed.specs.declared.typed.PrintPiece.TheVariants.{Text, Decimal, Byte}
 use Rattle.oc_typed.specs.Static.{working_kind, one_type, two_type}
-use Rattle.oc_typing.specs.Rules.{is_sized, is_whole, is_whole_row, is_type, is_nothing, is_null, is_public, is_promoted, is_leaf, is_held, is_addition, is_comparison, number, address, decay, takes_one, unary, marks, operands, binary, step, alike_pointers, logic, update, converts, same_all, formats}
+use Rattle.oc_typing.specs.Rules.{is_sized, is_whole, is_whole_row, is_type, is_nothing, is_null, is_public, is_promoted, is_leaf, is_held, is_comparison, number, address, decay, takes_one, unary, marks, binary, step, alike_pointers, logic, update, converts, same_all, formats}
 use Rattle.typed_runs.specs.Shapes.{Sized, Held, integer, pointer, struct, UnaryOk, unary_ok, Operands, alike_marks, by_public, BinaryOk, binary_ok, UpdateOk, steps, computes, ConvertOk, kinds, pointers, StepOk, step_ok, LogicOk, hidden_logic, public_logic, PublicOk, public_ok, NumberOk, Formats, no_pieces, a_text, a_number, a_byte}
 use Rattle.sound_runs.proofs.Bools.{first, second, kept, never, all2, all3, all4}
 

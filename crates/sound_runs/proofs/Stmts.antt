@@ -1,11 +1,11 @@
 -- Well typed statements have the shapes that walks want.
-use Rattle.std.proofs.Common.{ℕ, zero, suc, ◌≡◌, List, [], ◌∷◌, Option, Some, None, refl, sym, ap, ◌∙◌, subst, Bool, true, false}
+use Rattle.std.proofs.Common.{ℕ, zero, suc, ◌≡◌, List, [], ◌∷◌, Option, Some, None, refl, subst, Bool, true, false}
 use Rattle.std.specs.Prelude.{◌&&◌, not, slice_get}
 use Rattle.oc_values.specs.declared.integers.IntKind.TheVariants.{Bool as KBool}
-use Rattle.oc_cells.specs.declared.types.CType.{CType, Int, Nothing}
+use Rattle.oc_cells.specs.declared.types.CType.{CType, Int}
 use Rattle.oc_cells.specs.declared.types.SlotType.{SlotType}
 use Rattle.oc_cells.specs.declared.types.StructType.{StructType}
-use Rattle.oc_cells.specs.Types.{same, public_structs}
+use Rattle.oc_cells.specs.Types.{public_structs}
 use Rattle.oc_cells.specs.Layout.{struct_cells, struct_leaves}
 use Rattle.oc_cells.proofs.Equal.{same_is}
 use Rattle.oc_typed.specs.declared.typed.TExpr.{TExpr}
@@ -16,10 +16,9 @@ use Rattle.oc_typed.specs.declared.typed.TStmt.{TStmt}
 use Rattle.oc_typed.specs.declared.typed.TStmtNode.{TStmtNode, Declare, Express, Block', If', OblivIf', Always', While', For', Return, Break, Continue, Empty, Row_of-TStmt, end_of-TStmt, more_of-TStmt, Held-TStmtNode-If-2, None', Some'}
 use Rattle.oc_typed.specs.declared.typed.TypedFunction.{TypedFunction}
 use Rattle.oc_typed.specs.Visible.{after_node, after_header}
-use Rattle.oc_typing.specs.Rules.{all, is_type, is_nothing, is_public, is_held}
+use Rattle.oc_typing.specs.Rules.{all, is_type, is_nothing, is_held}
 use Rattle.oc_typing.specs.Typed.{Context, context, has_type, is_of_node, is_slot, is_starred, expr, alone, valued, condition, initial, declares, header, maybe, back, is_block, stmt, part, rows, other, stmts}
-use Rattle.typed_runs.specs.Shapes.{Heading, Held, Sized}
-use Rattle.typed_runs.specs.Statements as shapes
+use Rattle.typed_runs.specs.Shapes.{Heading}
 use Rattle.typed_runs.specs.Statements.{WholeOk, TestOk, InitOk, DeclaredOk, DeclaredsOk, HeaderOk, MaybeTestOk, MaybeOk, BackOk, NameOk, NodeOk, PartOk, RowOk, OtherOk, ListOk}
 use Rattle.sound_runs.specs.Laws.{headings}
 use Rattle.sound_runs.proofs.Bools.{first, second, kept, never, all2, all3, all4}

@@ -1,6 +1,6 @@
 -- A well typed tree has the shapes that its walks want, and so meets no value of another form.
 use Rattle.std.specs.Prelude.{ℕ, ◌≡◌, ℤ, List, [], map, true, Some, slice_get}
-use Rattle.oc_cells.specs.declared.types.CType.{CType, Nothing}
+use Rattle.oc_cells.specs.declared.types.CType.{Nothing}
 use Rattle.oc_cells.specs.declared.types.StructType.{StructType}
 use Rattle.oc_cells.specs.Layout.{struct_leaves}
 use Rattle.oc_typed.specs.declared.typed.TypedFunction.{TypedFunction}

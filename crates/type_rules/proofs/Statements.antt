@@ -13,10 +13,11 @@ use Rattle.type_rules.specs.declared.judging.TypeRule.TheVariants.{T2, T3, T12}
 use Rattle.type_rules.specs.declared.judging.Refusal.{Refusal}
 use Rattle.type_rules.specs.declared.judging.Found.{Found}
 use Rattle.type_rules.specs.Judging.{Judged, next, needs, public_integer}
-use Rattle.type_rules.specs.Nodes.{Lookup, value_of, valued, convert}
+use Rattle.type_rules.specs.Lookup.{Lookup, value_of, valued, convert}
 use Rattle.oc_typed.specs.declared.typed.TDeclared as typed_declared
 use Rattle.type_rules.specs.Written.{field_type, is_frozen_place}
-use Rattle.type_rules.specs.Rules.{add, is_taken, initial, declare, declare_all, expr, Scope, Walk, bind, pure, ask, at, scoped, typed_value, typed_alone, value_in, alone_in, made, stmt, stmts, part, other}
+use Rattle.type_rules.specs.Rules.{expr, typed_value, typed_alone}
+use Rattle.type_rules.specs.StatementRules.{add, is_taken, initial, declare, declare_all, Scope, Walk, bind, pure, ask, at, scoped, value_in, alone_in, made, stmt, stmts, part, other}
 use Rattle.oc_values.specs.declared.integers.IntKind.TheVariants.{Bool as KBool}
 use Rattle.oc_cells.specs.declared.types.CType.{Int}
 use Rattle.oc_source.specs.declared.parsed.ForInit.{ForInit}
@@ -24,8 +25,8 @@ use Rattle.oc_source.specs.declared.parsed.ForInit.TheVariants as begin
 use Rattle.oc_typed.specs.declared.typed.TForInit as typed_init
 use Rattle.oc_typed.specs.declared.typed.TForInit.TheVariants as init
 use Rattle.oc_cells.specs.Types.{is_integer}
-use Rattle.type_rules.specs.Nodes.{converted}
-use Rattle.type_rules.specs.Rules.{name_mark, header, optional_in, condition, returned}
+use Rattle.type_rules.specs.Lookup.{converted}
+use Rattle.type_rules.specs.StatementRules.{name_mark, header, optional_in, condition, returned}
 use Rattle.type_rules.specs.Moves.{Step, Alone, Value, Test, Jump, Name, First, Hidden, Tested, Gives, Mark, optional_moves, header_moves, Moves, Done, More, Inside, first_moves, declared_moves, moves, moves1, moves_all, moves_other, deeper, back, Fine, Breaks, AllFine, FirstFault}
 use Rattle.type_rules.proofs.Laws.{absurd, parted, broken, not_both, fine_back, from_ok, from_err, err_back, found, faults}
 

@@ -9,9 +9,9 @@ use Rattle.type_rules.specs.declared.judging.Refusal.{Refusal}
 use Rattle.type_rules.specs.declared.judging.Found.{Found}
 use Rattle.type_rules.specs.Judging.{Judged, needs, public_integer}
 use Rattle.oc_cells.specs.Types.{is_integer}
-use Rattle.type_rules.specs.Nodes.{Lookup, value_of, convert}
+use Rattle.type_rules.specs.Lookup.{Lookup, value_of, convert}
 use Rattle.type_rules.specs.Written.{is_frozen_place}
-use Rattle.type_rules.specs.Rules.{Scope, at, add, returned, stmt}
+use Rattle.type_rules.specs.StatementRules.{Scope, at, add, returned, stmt}
 use Rattle.type_rules.specs.Typing.{Typing}
 use Rattle.type_rules.specs.Moves.{Step, Alone, Value, Test, Jump, Name, First, Hidden, Tested, Gives, Mark, Moves, Done, More, Inside, moves, deeper, back, Fine, Breaks, AllFine, FirstFault}
 use Rattle.type_rules.proofs.Laws.{absurd, not_both, fine_back, from_err, holds, only}

@@ -11,7 +11,10 @@ use Rattle.type_rules.specs.declared.judging.TypeRule.TheVariants.{T1, T7, T8, T
 use Rattle.type_rules.specs.declared.judging.Refusal.{Refusal}
 use Rattle.type_rules.specs.declared.judging.Found.{Found}
 use Rattle.type_rules.specs.Judging.{breaks}
-use Rattle.type_rules.specs.Nodes.{Lookup, find, value_of, is, convert, number, variable, unary, bump, operate, logic, choice, assign, index, field, arrow, cast, Called, Variable, Unknown, Print, Own, Known, called, Given, given_as, Way, ByValue, ByPrivate, BySize, own_called, private_word, function_called, format_of, asked, Printed, printed_value, print_called}
+use Rattle.type_rules.specs.Lookup.{Lookup, find, value_of, is, convert, number, variable}
+use Rattle.type_rules.specs.Operators.{unary, bump, operate, logic, choice, assign, index, field, arrow, cast}
+use Rattle.type_rules.specs.Calls.{Called, Variable, Unknown, Print, Own, Known, called, Given, given_as, Way, ByValue, ByPrivate, BySize, own_called, private_word, function_called}
+use Rattle.type_rules.specs.Prints.{format_of, asked, Printed, printed_value, print_called}
 use Rattle.type_rules.specs.Written.{type_name}
 use Rattle.oc_values.specs.declared.integers.IntKind.{IntKind}
 use Rattle.type_rules.specs.declared.judging.Want.{Want}

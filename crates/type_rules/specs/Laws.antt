@@ -6,8 +6,9 @@ use Rattle.oc_source.specs.declared.parsed.StmtNode.{StmtNode}
 use Rattle.oc_typed.specs.declared.typed.TStmt.{TStmt}
 use Rattle.type_rules.specs.declared.judging.Found.{Found}
 use Rattle.type_rules.specs.declared.judging.Refusal.{Refusal}
-use Rattle.type_rules.specs.Nodes.{Lookup}
-use Rattle.type_rules.specs.Rules.{Scope, expr, stmt}
+use Rattle.type_rules.specs.Lookup.{Lookup}
+use Rattle.type_rules.specs.Rules.{expr}
+use Rattle.type_rules.specs.StatementRules.{Scope, stmt}
 use Rattle.type_rules.specs.Typing.{Typing}
 use Rattle.type_rules.specs.FirstFault.{order, FirstFault}
 use Rattle.type_rules.specs.Moves as visits

@@ -1,44 +1,26 @@
--- Rules: the typed tree of a program, or its first fault. Parts come before their node, in the order of evaluation.
-use Rattle.std.specs.Prelude.{ℕ, ◌+◌, nat_eq, List, [], ◌∷◌, ◌++◌, length, Bool, true, false, not, ◌&&◌, ◌||◌, if◌then◌else◌, Option, Some, None, is_some, Ok, codes}
+-- The rules of typing for expressions, as functions: what each is found to be, or the first rule that it breaks.
+use Rattle.std.specs.Prelude.{if◌then◌else◌, ℕ, nat_eq, List, [], ◌∷◌, ◌++◌, Bool, true, false, ◌&&◌, ◌||◌, Option, Some, None, is_some, Ok}
 use Rattle.oc_values.specs.declared.integers.IntKind.{IntKind}
-use Rattle.oc_values.specs.declared.integers.IntKind.TheVariants.{Bool as KBool}
 use Rattle.oc_values.specs.declared.integers.BinaryOp.{BinaryOp}
 use Rattle.oc_values.specs.declared.integers.BinaryOp.TheVariants.{Mul}
 use Rattle.oc_source.specs.declared.spot.Spot.{Spot}
-use Rattle.oc_cells.specs.declared.types.CType.{CType, Int, Nothing}
+use Rattle.oc_cells.specs.declared.types.CType.{CType, Nothing}
 use Rattle.oc_cells.specs.declared.types.CType.TheViews.{Pointer}
-use Rattle.oc_cells.specs.declared.types.SlotType.{SlotType}
 use Rattle.oc_source.specs.declared.parsed.TypeName.{TypeName}
 use Rattle.oc_source.specs.declared.parsed.Expr.{Expr}
 use Rattle.oc_source.specs.declared.parsed.ExprNode.{ExprNode, Number, NullPointer, Text, Named, Unary', Bump', Binary', Logic', Choose', Assign', Index', Field', Arrow', Call', Cast', SizeOf, Row_of-Expr, end_of-Expr, more_of-Expr}
-use Rattle.oc_source.specs.declared.parsed.Declared.{Declared}
-use Rattle.oc_source.specs.declared.parsed.Stmt.{Stmt}
-use Rattle.oc_source.specs.declared.parsed.StmtNode.{StmtNode, Declare, Express, Block', If', OblivIf', Always', While', For', Return, Break, Continue, Empty, Row_of-Stmt, end_of-Stmt, more_of-Stmt, Held-StmtNode-If-2, None', Some'}
-use Rattle.oc_source.specs.declared.parsed.ForInit.{ForInit}
-use Rattle.oc_source.specs.declared.parsed.ForInit.TheVariants as begin
-use Rattle.oc_source.specs.declared.parsed.StructDef.{StructDef}
-use Rattle.oc_source.specs.declared.parsed.Param.{Param}
-use Rattle.oc_source.specs.declared.parsed.Function.{Function}
-use Rattle.oc_source.specs.declared.parsed.Program.{Program}
 use Rattle.oc_typed.specs.declared.typed.TExpr.{TExpr}
 use Rattle.oc_typed.specs.declared.typed.TExprNode as t
-use Rattle.oc_typed.specs.declared.typed.TStmt as typed
-use Rattle.oc_typed.specs.declared.typed.TStmtNode as s
-use Rattle.oc_typed.specs.declared.typed.TDeclared as typed_declared
-use Rattle.oc_typed.specs.declared.typed.TForInit as typed_init
-use Rattle.oc_typed.specs.declared.typed.TForInit.TheVariants as init
-use Rattle.oc_typed.specs.declared.typed.TypedFunction.{TypedFunction}
-use Rattle.oc_typing.specs.declared.program.Typed.{Typed}
-use Rattle.type_rules.specs.declared.judging.TypeRule.TheVariants.{T1, T2, T3, T7, T8, T9, T10, T12}
+use Rattle.type_rules.specs.declared.judging.TypeRule.TheVariants.{T1, T7, T8, T9}
 use Rattle.type_rules.specs.declared.judging.Found.{Found}
-use Rattle.type_rules.specs.declared.judging.Seen.{Seen}
-use Rattle.type_rules.specs.declared.judging.Heading.{Heading}
 use Rattle.type_rules.specs.declared.judging.Want.{Want}
 use Rattle.type_rules.specs.declared.judging.Want.TheVariants as want
-use Rattle.type_rules.specs.Judging.{Judged, next, breaks, needs, public_integer, is_nothing}
-use Rattle.oc_cells.specs.Types.{is_integer}
-use Rattle.type_rules.specs.Nodes.{Lookup, find, valued, is, convert, converted, number, variable, unary, bump, operate, logic, choice, assign, index, field, arrow, cast, same_name, Called, Variable, Unknown, Print, Own, Known, called, is_private_call, types_of, wants, Given, given_none, given_value, given_size, given_wrong, joined, given_by, Way, ByValue, ByPrivate, BySize, own_called, private_word, function_called, format_of, asked, Printed, printed_value, printed_both, print_called}
-use Rattle.type_rules.specs.Written.{type_name, base_type, field_type, is_frozen_place, public_from, struct_names, structs_from, headings_from, bodies_of, at_function}
+use Rattle.type_rules.specs.Judging.{Judged, next, breaks, public_integer}
+use Rattle.type_rules.specs.Lookup.{Lookup, find, valued, is, convert, number, variable}
+use Rattle.type_rules.specs.Operators.{unary, bump, operate, logic, choice, assign, index, field, arrow, cast}
+use Rattle.type_rules.specs.Calls.{Called, Variable, Unknown, Print, Own, Known, called, is_private_call, types_of, wants, Given, given_none, given_value, given_size, given_wrong, joined, given_by, Way, ByValue, ByPrivate, BySize, own_called, private_word, function_called}
+use Rattle.type_rules.specs.Prints.{format_of, asked, Printed, printed_value, printed_both, print_called}
+use Rattle.type_rules.specs.Written.{type_name, base_type}
 
 -- the type that `sizeof` names
 abbrev pub sizeof_type : ExprNode → Option TypeName
@@ -205,208 +187,3 @@ typed_value g e = valued (expr g false e.spot e.node)
 -- an expression that stands alone
 unfoldable pub typed_alone : Lookup → Expr → Judged TExpr
 typed_alone g e = valued (expr g true e.spot e.node)
-
--- what is visible, the variables of the function so far, and how many scopes are open
-pub record Scope : Type 0 where
-  pub seen : List Seen
-  pub slots : List SlotType
-  pub level : ℕ
-
--- a judgement that may declare
-abbrev pub Walk : Type 0 → Type 0
-Walk A = Scope → Judged (A × Scope)
-
--- one judgement, then the one that its answer gives
-abbrev pub bind : {A B : Type 0} → Walk A → (A → Walk B) → Walk B
-bind m k s = next (m s) (λ r. k r.0 r.1)
-
--- an answer that declares nothing
-abbrev pub pure : {A : Type 0} → A → Walk A
-pure a s = Ok (a, s)
-
--- a judgement that declares nothing
-abbrev pub ask : {A : Type 0} → Judged A → Walk A
-ask m s = next m (λ a. Ok (a, s))
-
--- the same with what is visible now
-abbrev pub at : Lookup → Scope → Lookup
-at g s = record g { seen = s.seen }
-
--- a part whose names end with it, and whose variables stay
-abbrev pub scoped : {A : Type 0} → Walk A → Walk A
-scoped m s = next (m (record s { level = s.level + 1 })) (λ r. Ok (r.0, record { seen = s.seen; slots = r.1.slots; level = s.level }))
-
--- whether a name is declared in the scope
-abbrev pub is_taken : List Seen → ℕ → List ℕ → Bool
-is_taken [] level x = false
-is_taken (y ∷ ys) level x = (nat_eq y.level level && same_name y.name x) || is_taken ys level x
-
--- a further variable, which has the next slot
-abbrev pub add : List ℕ → CType → Bool → Scope → Scope
-add x ty frozen s =
-    record {
-      seen = s.seen ++ record { name = x; level = s.level; slot = length s.slots; ty = ty } ∷ [];
-      slots = s.slots ++ record { ty = ty; frozen = frozen } ∷ [];
-      level = s.level;
-    }
-
--- an expression whose value is used
-abbrev pub value_in : Lookup → Expr → Walk TExpr
-value_in g e s = next (typed_value (at g s) e) (λ v. Ok (v, s))
-
--- an expression that stands alone
-abbrev pub alone_in : Lookup → Expr → Walk TExpr
-alone_in g e s = next (typed_alone (at g s) e) (λ v. Ok (v, s))
-
--- an expression whose value is used, if there is one
-abbrev pub optional_in : Lookup → Option Expr → Walk (Option TExpr)
-optional_in g None = pure None
-optional_in g (Some e) = bind (value_in g e) (λ v. pure (Some v))
-
--- an initialiser, converted to the type of its variable, if there is one
-abbrev pub initial : Lookup → CType → Option Expr → Walk (Option TExpr)
-initial g ty None = pure None
-initial g ty (Some e) = bind (value_in g e) (λ v. bind (ask (convert ty v)) (λ x. pure (Some x)))
-
--- the name is visible in its own initialiser
-abbrev pub declare : Lookup → Declared → Walk typed_declared.TDeclared
-declare g d s =
-    next (field_type g d.field) (λ ty.
-    next (needs d.field.spot T2 (not (is_taken s.seen s.level d.field.name))) (λ _.
-    bind (initial g ty d.init) (λ v. pure (record { spot = d.field.spot; slot = length s.slots; init = v }))
-    (add d.field.name ty (is_frozen_place d.field.base d.field.stars) s)))
-
--- the variables of a declaration, in order
-abbrev pub declare_all : Lookup → List Declared → Walk (List typed_declared.TDeclared)
-declare_all g [] = pure []
-declare_all g (d ∷ ds) = bind (declare g d) (λ x. bind (declare_all g ds) (λ xs. pure (x ∷ xs)))
-
--- a variable that a `~obliv` declares
-abbrev pub name_mark : List ℕ → Walk ℕ
-name_mark x s = Ok (length s.slots, add x (Int KBool true) false s)
-
--- what the header of a `for` begins with
-abbrev pub header : Lookup → ForInit → Walk typed_init.TForInit
-header g begin.Nothing = pure init.Nothing
-header g (begin.Declare ds) = bind (declare_all g ds) (λ xs. pure (init.Declare xs))
-header g (begin.Express e) = bind (value_in g e) (λ v. pure (init.Express v))
-
--- the condition of a `for`, which is public, if there is one
-abbrev pub condition : Spot → Option TExpr → Judged (Unit {0})
-condition p None = Ok tt
-condition p (Some v) = public_integer p v.ty
-
--- a `return`, with a value exactly where the function has a result
-abbrev pub returned : Lookup → Spot → Option TExpr → Judged (Option TExpr)
-returned g p None = next (needs p T3 (is_nothing g.result)) (λ _. Ok None)
-returned g p (Some v) = next (needs p T3 (not (is_nothing g.result))) (λ _. next (convert g.result v) (λ x. Ok (Some x)))
-
--- a statement with its spot
-abbrev pub made : Spot → s.TStmtNode → Walk typed.TStmt
-made p n = pure (typed.roll-TStmt (record { spot = p; node = n }))
-
-abbrev mutual
-  -- a statement, in a loop or not
-  pub stmt : Lookup → Bool → Spot → StmtNode → Walk typed.TStmt
-  stmt g loop p (Declare ds) = bind (declare_all g ds) (λ xs. made p (s.Declare xs))
-  stmt g loop p (Express e) = bind (alone_in g e) (λ v. made p (s.Express v))
-  stmt g loop p (Block' _ ss) = bind (scoped (stmts g loop ss)) (λ xs. made p (s.Block xs))
-  stmt g loop p (If' c _ y n) =
-      bind (value_in g c) (λ v. bind (ask (public_integer p v.ty)) (λ _. bind (part g loop y) (λ a.
-      bind (other g loop n) (λ b. made p (s.If v a b)))))
-  stmt g loop p (OblivIf' c _ y n) =
-      bind (value_in g c) (λ v. bind (ask (needs p T3 (is_integer v.ty))) (λ _. bind (part g loop y) (λ a.
-      bind (other g loop n) (λ b. made p (s.OblivIf (converted (Int KBool true) v) a b)))))
-  stmt g loop p (Always' x _ b) = scoped (bind (name_mark x) (λ n. bind (part g loop b) (λ a. made p (s.Always n a))))
-  stmt g loop p (While' c _ b) =
-      bind (value_in g c) (λ v. bind (ask (public_integer p v.ty)) (λ _. bind (part g true b) (λ a. made p (s.While v a))))
-  stmt g loop p (For' i c v _ b) =
-      scoped (bind (header g i) (λ x. bind (optional_in g c) (λ y. bind (optional_in g v) (λ z. bind (ask (condition p y)) (λ _.
-      bind (part g true b) (λ a. made p (s.For x y z a)))))))
-  stmt g loop p (Return e) = bind (optional_in g e) (λ v. bind (ask (returned g p v)) (λ x. made p (s.Return x)))
-  stmt g loop p Break = bind (ask (needs p T12 loop)) (λ _. made p s.Break)
-  stmt g loop p Continue = bind (ask (needs p T12 loop)) (λ _. made p s.Continue)
-  stmt g loop p Empty = made p s.Empty
-
-  -- a part of a statement
-  pub part : Lookup → Bool → Row_of-Stmt 1 → Walk typed.TStmt
-  part g loop (more_of-Stmt p n rest) = stmt g loop p n
-
-  -- the statements of a block, in order
-  pub stmts : {m : _} → Lookup → Bool → Row_of-Stmt m → Walk (List typed.TStmt)
-  stmts g loop end_of-Stmt = pure []
-  stmts g loop (more_of-Stmt p n rest) = bind (stmt g loop p n) (λ x. bind (stmts g loop rest) (λ xs. pure (x ∷ xs)))
-
-  -- the part after an `else`, if there is one
-  pub other : Lookup → Bool → Held-StmtNode-If-2 → Walk (Option typed.TStmt)
-  other g loop None' = pure None
-  other g loop (Some' _ y) = bind (part g loop y) (λ x. pure (Some x))
-
--- the statements of a function's body, in order
-abbrev pub statements : Lookup → List Stmt → Walk (List typed.TStmt)
-statements g [] = pure []
-statements g (x ∷ xs) = bind (stmt g false x.spot x.node) (λ y. bind (statements g xs) (λ ys. pure (y ∷ ys)))
-
--- the parameters, which share the scope of the body
-abbrev pub with_params : List Param → List SlotType → Scope → Scope
-with_params [] ss s = s
-with_params (p ∷ ps) [] s = s
-with_params (p ∷ ps) (t ∷ ts) s = with_params ps ts (add p.name t.ty t.frozen s)
-
--- a function with its body, in whose scope its parameters are
-abbrev pub body : Lookup → Function → Heading → List Stmt → Judged TypedFunction
-body g f h ss =
-    next (statements g ss (with_params f.params h.params (record { seen = []; slots = []; level = 0 }))) (λ r.
-    Ok (record { name = f.name; result = h.result; params = length h.params; slots = r.1.slots; obliv = f.obliv; body = r.0 }))
-
--- a function with its heading
-abbrev pub function : Lookup → Function → Heading → Option (List Stmt) → List TypedFunction → Judged (List TypedFunction)
-function g f h None done = Ok done
-function g f h (Some ss) done = next (body (record g { result = h.result }) f h ss) (λ t. Ok (done ++ t ∷ []))
-
--- the functions with a body, in order
-abbrev pub functions_from : Lookup → List StructDef → List TypedFunction → List Function → List Heading → Judged (List TypedFunction)
-functions_from g ds done [] hs = Ok done
-functions_from g ds done (f ∷ fs) [] = Ok done
-functions_from g ds done (f ∷ fs) (h ∷ hs) = next (function (at_function g ds f) f h f.body done) (λ ts. functions_from g ds ts fs hs)
-
--- whether there is no slot
-abbrev pub is_empty : List SlotType → Bool
-is_empty [] = true
-is_empty (s ∷ ss) = false
-
--- whether a heading is that of the function that a run starts with
-abbrev pub is_entry : Heading → Bool
-is_entry h = same_name h.name (codes "oc_main") && is_nothing h.result && is_empty h.params && not h.obliv
-
--- the number of the first such heading, counted from n
-abbrev pub entry_from : ℕ → List Heading → Option ℕ
-entry_from n [] = None
-entry_from n (h ∷ hs) = if is_entry h then Some n else entry_from (n + 1) hs
-
--- the number of the function that a run starts with, which has to be there
-abbrev pub entry : Spot → Option ℕ → Judged ℕ
-entry p None = breaks p T10
-entry p (Some n) = Ok n
-
--- what is known before the structs are judged
-abbrev pub first_lookup : List StructDef → Lookup
-first_lookup ds =
-    record {
-      names = struct_names ds;
-      public = public_from (struct_names ds) [] ds;
-      structs = [];
-      above = 0;
-      bodies = [];
-      result = Nothing;
-      seen = [];
-    }
-
--- the typed tree of a program, or its first fault
-unfoldable pub typed_program : Program → Judged Typed
-typed_program p =
-    next (structs_from (first_lookup p.structs) p.structs) (λ g.
-    next (headings_from g p.structs [] p.functions) (λ hs.
-    next (functions_from (record g { bodies = bodies_of hs }) p.structs [] p.functions hs) (λ ts.
-    next (entry p.end (entry_from 0 (bodies_of hs))) (λ n.
-    Ok (record { structs = g.structs; functions = ts; entry = n })))))

@@ -1,11 +1,11 @@
 -- When a typed tree's nodes have values of the forms that their users want.
-use Rattle.std.specs.Prelude.{ℕ, ◌≡◌, ℤ, List, [], ◌∷◌, Some, Bool, true, false, ◌||◌, nat_eq, slice_get}
+use Rattle.std.specs.Prelude.{ℕ, ◌≡◌, ℤ, List, [], ◌∷◌, Some, Bool, true, false, ◌||◌, slice_get}
 use Rattle.oc_values.specs.declared.integers.IntKind.{IntKind}
 use Rattle.oc_values.specs.declared.integers.IntKind.TheVariants.{Bool as KBool, I32, I64}
 use Rattle.oc_values.specs.declared.integers.BinaryOp.{BinaryOp}
 use Rattle.oc_values.specs.declared.integers.OneOp.{OneOp}
-use Rattle.oc_values.specs.Integers.{IsOfKind, kind_of_result}
-use Rattle.oc_values.specs.Kinds.{same_kind, is_shift, result_kind, one_kind}
+use Rattle.oc_values.specs.Integers.{IsOfKind}
+use Rattle.oc_values.specs.Kinds.{same_kind, is_shift}
 use Rattle.oc_cells.specs.declared.types.CType.{CType, Int, Pointer', Struct, Nothing}
 use Rattle.oc_cells.specs.Types.{is_pointer, target, AreLeaves}
 use Rattle.oc_cells.specs.Layout.{leaves, has_size}

@@ -29,7 +29,8 @@ divide_circuit w x y = known false (λ low. known true (λ high.
 
 -- one place of a conditional negation: the place, turned where b is true, and the carry
 abbrev pub negate_step : {W : Type 0} → List W → W → W → ℕ → Carried W → Circuit W (Carried W)
-negate_step x b d i a = join (get_or x i d) b (λ y. join y a.carry (λ s. meet y a.carry (λ c. give (record { sums = a.sums ++ s ∷ []; carry = c }))))
+negate_step x b d i a =
+    join (get_or x i d) b (λ y. join y a.carry (λ s. meet y a.carry (λ c. give (record { sums = a.sums ++ s ∷ []; carry = c }))))
 
 -- the last place of a conditional negation, whose carry isn't made
 abbrev pub last_negated : {W : Type 0} → List W → W → W → ℕ → Carried W → Circuit W (List W)

@@ -148,7 +148,8 @@ abbrev pub Affords : {S : Type 0} → (S → ℕ) → S → Operation → ℕ �
 Affords room s op w = HasRoom room s (ands_of (word_op op) w)
 
 -- an operation on words of w wires was performed on the operands' wires xs from the state s, and gave r and the state t
-pub record Performs {S W : Type 0} (m : Calls S W) (stands : S → W → Bool → Type 0) (tally space : S → ℕ) (op : Operation) (w : ℕ) (xs : List W)
+pub record Performs {S W : Type 0} (m : Calls S W) (stands : S → W → Bool → Type 0) (tally space : S → ℕ)
+    (op : Operation) (w : ℕ) (xs : List W)
     (s : S) (r : List W) (t : S) : Type 0 where
   -- the state and the wires are those of the backend's own calls, played in the order of the list of gates
   pub plays : PlaysGates m (fragment op w) xs s r t

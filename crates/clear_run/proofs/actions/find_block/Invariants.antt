@@ -1,6 +1,6 @@
 use Rattle.std.proofs.Common.{◌≡◌, take}
 use Rattle.std.specs.Prelude.{reverse}
-use Rattle.oc_tree.specs.Walking.{block_of}
+use Rattle.first_tree.specs.Walking.{block_of}
 use Rattle.clear_run.proofs.actions.find_block.Given as goal
 
 abbrev pub invariant-loop-named : goal.invariant-loop-named

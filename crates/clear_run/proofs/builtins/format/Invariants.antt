@@ -1,5 +1,5 @@
 use Rattle.std.proofs.Common.{◌≡◌, drop}
-use Rattle.oc_tree.specs.Values.{formatted, onto}
+use Rattle.first_tree.specs.Values.{formatted, onto}
 use Rattle.clear_run.proofs.builtins.format.Given as goal
 
 abbrev pub invariant-loop-piece : goal.invariant-loop-piece

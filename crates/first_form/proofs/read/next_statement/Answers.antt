@@ -1,5 +1,5 @@
 use Rattle.std.proofs.Common.{sym, subst, map, List}
-use Rattle.oc_tree.specs.declared.typed.TStmt.{TStmt}
+use Rattle.first_tree.specs.declared.typed.TStmt.{TStmt}
 use Rattle.first_form.specs.declared.scope.DeclaredName.{DeclaredName}
 use Rattle.first_form.specs.Items.{Named}
 use Rattle.first_form.specs.Scope.{named, Builds}

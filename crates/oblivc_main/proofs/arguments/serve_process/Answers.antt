@@ -12,4 +12,4 @@ returns-in-UpTo-clause-served g c =
     (texts c.as_slice-in-UpTo.result.now, inr (said.0, said.1, refl, said.2, λ n. refl))
 
 pub returns-in-NoMemory-clause-served : goal.returns-in-NoMemory-clause-served
-returns-in-NoMemory-clause-served g c = ([], inl (without_memory refl (inl refl), λ n others. refl))
+returns-in-NoMemory-clause-served g c = ([], inl (without_memory c.say_memory.ensures.status (inl refl), λ n others. refl))

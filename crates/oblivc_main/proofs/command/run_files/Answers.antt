@@ -1,7 +1,7 @@
 use Rattle.std.proofs.Common.{ap, Err, ◌∙◌, ◌≡◌, subst, arith}
 use Rattle.std.proofs.lemmas.Result.{err_from_is_err_and}
 use Rattle.std.specs.Prelude.{IfOk}
-use Rattle.oc_tree.specs.Clear.{Clear}
+use Rattle.first_tree.specs.Clear.{Clear}
 use Rattle.oblivc_main.specs.Endings.{setup_of}
 use Rattle.oblivc_main.proofs.Stages.{first_stops, second_stops, ran}
 use Rattle.oblivc_main.proofs.command.run_files.Goals as goal

@@ -1,7 +1,7 @@
 //! A whole program.
 
 ghost use Rattle.std.specs.Prelude.{IsTrue};
-ghost use Rattle.oc_tree.specs.Typing.{is_typed};
+ghost use Rattle.first_tree.specs.Typing.{is_typed};
 
 use crate::typed::TypedFunction;
 use oc_values::Items;

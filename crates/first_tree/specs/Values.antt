@@ -10,12 +10,12 @@ use Rattle.oc_cells.specs.declared.memory.Address.{Address}
 use Rattle.oc_cells.specs.declared.memory.Address.TheVariants.{Null, At}
 use Rattle.oc_cells.specs.declared.memory.CellValue.{CellValue}
 use Rattle.oc_cells.specs.declared.memory.CellValue.TheVariants.{Int as CellInt, Pointer as CellPointer, Hidden as CellHidden}
-use Rattle.oc_tree.specs.declared.run.Value.{Value}
-use Rattle.oc_tree.specs.declared.run.Value.TheVariants.{Int, Pointer, Hidden, Nothing}
+use Rattle.first_tree.specs.declared.run.Value.{Value}
+use Rattle.first_tree.specs.declared.run.Value.TheVariants.{Int, Pointer, Hidden, Nothing}
 use Rattle.oc_cells.specs.declared.trap.TrapKind.TheVariants.{M2, M3, M5}
-use Rattle.oc_tree.specs.declared.typed.PrintPiece.{PrintPiece}
-use Rattle.oc_tree.specs.declared.typed.PrintPiece.TheVariants.{Text, Decimal}
-use Rattle.oc_tree.specs.Walking.{Mem, State, Act, bind, pure, trap, loads, stores, block_of}
+use Rattle.first_tree.specs.declared.typed.PrintPiece.{PrintPiece}
+use Rattle.first_tree.specs.declared.typed.PrintPiece.TheVariants.{Text, Decimal}
+use Rattle.first_tree.specs.Walking.{Mem, State, Act, bind, pure, trap, loads, stores, block_of}
 
 -- trap M5 at this spot, for a value of another form than is wanted
 abbrev pub wrong : {T R : Type 0} → Spot → Act T R

@@ -12,29 +12,29 @@ use Rattle.oc_cells.specs.declared.types.SlotType.{SlotType}
 use Rattle.oc_cells.specs.declared.memory.Address.{Address}
 use Rattle.oc_cells.specs.declared.memory.Address.TheVariants.{At}
 use Rattle.oc_cells.specs.declared.memory.CellValue.TheVariants.{Int as CellInt}
-use Rattle.oc_tree.specs.declared.run.Value.{Value}
-use Rattle.oc_tree.specs.declared.run.Value.TheVariants.{Int, Pointer, Hidden, Nothing}
-use Rattle.oc_tree.specs.declared.run.Source.{Source}
-use Rattle.oc_tree.specs.declared.run.Source.TheVariants.{Word, Public}
-use Rattle.oc_tree.specs.declared.run.Flow.{Flow}
-use Rattle.oc_tree.specs.declared.run.Flow.TheVariants.{Next}
+use Rattle.first_tree.specs.declared.run.Value.{Value}
+use Rattle.first_tree.specs.declared.run.Value.TheVariants.{Int, Pointer, Hidden, Nothing}
+use Rattle.first_tree.specs.declared.run.Source.{Source}
+use Rattle.first_tree.specs.declared.run.Source.TheVariants.{Word, Public}
+use Rattle.first_tree.specs.declared.run.Flow.{Flow}
+use Rattle.first_tree.specs.declared.run.Flow.TheVariants.{Next}
 use Rattle.oc_cells.specs.declared.trap.TrapKind.TheVariants.{I1, M2}
-use Rattle.oc_tree.specs.declared.typed.TExpr.{TExpr}
-use Rattle.oc_tree.specs.declared.typed.TExprNode.{TExprNode, Number, Read', AddressOf', Binary', Builtin', Row_of-TExpr, end_of-TExpr, more_of-TExpr}
-use Rattle.oc_tree.specs.declared.typed.PlaceNode.{PlaceNode, Slot, Deref'}
-use Rattle.oc_tree.specs.declared.typed.Builtin.{Builtin}
-use Rattle.oc_tree.specs.declared.typed.Builtin.TheVariants.{Private, Feed, Reveal, Print}
-use Rattle.oc_tree.specs.declared.typed.TDeclared.{TDeclared}
-use Rattle.oc_tree.specs.declared.typed.TStmt.{TStmt}
-use Rattle.oc_tree.specs.declared.typed.TStmtNode.{TStmtNode}
-use Rattle.oc_tree.specs.declared.typed.TStmtNode.TheVariants.{Declare, Express}
-use Rattle.oc_tree.specs.declared.typed.TypedFunction.{TypedFunction}
-use Rattle.oc_tree.specs.declared.program.Typed.{Typed}
+use Rattle.first_tree.specs.declared.typed.TExpr.{TExpr}
+use Rattle.first_tree.specs.declared.typed.TExprNode.{TExprNode, Number, Read', AddressOf', Binary', Builtin', Row_of-TExpr, end_of-TExpr, more_of-TExpr}
+use Rattle.first_tree.specs.declared.typed.PlaceNode.{PlaceNode, Slot, Deref'}
+use Rattle.first_tree.specs.declared.typed.Builtin.{Builtin}
+use Rattle.first_tree.specs.declared.typed.Builtin.TheVariants.{Private, Feed, Reveal, Print}
+use Rattle.first_tree.specs.declared.typed.TDeclared.{TDeclared}
+use Rattle.first_tree.specs.declared.typed.TStmt.{TStmt}
+use Rattle.first_tree.specs.declared.typed.TStmtNode.{TStmtNode}
+use Rattle.first_tree.specs.declared.typed.TStmtNode.TheVariants.{Declare, Express}
+use Rattle.first_tree.specs.declared.typed.TypedFunction.{TypedFunction}
+use Rattle.first_tree.specs.declared.program.Typed.{Typed}
 use Rattle.oc_cells.specs.Layout.{leaves}
-use Rattle.oc_tree.specs.Typing.{is_sum}
-use Rattle.oc_tree.specs.Domain.{Domain}
-use Rattle.oc_tree.specs.Values.{wrong, reads, initializes, constant, follows, slot, formatted}
-use Rattle.oc_tree.specs.Walking.{Mem, State, Res, Go, Stop, Act, bind, pure, trap, still, own, stores, makes, answer, transfers, step, enter, finish}
+use Rattle.first_tree.specs.Typing.{is_sum}
+use Rattle.first_tree.specs.Domain.{Domain}
+use Rattle.first_tree.specs.Values.{wrong, reads, initializes, constant, follows, slot, formatted}
+use Rattle.first_tree.specs.Walking.{Mem, State, Res, Go, Stop, Act, bind, pure, trap, still, own, stores, makes, answer, transfers, step, enter, finish}
 
 -- what both parties know before a walk: the public words, and how many private words each party has
 pub record Known : Type 0 where

@@ -6,20 +6,20 @@ use Rattle.oc_values.specs.declared.integers.IntKind.TheVariants.{I32, I64}
 use Rattle.oc_values.specs.declared.integers.BinaryOp.TheVariants.{Add}
 use Rattle.oc_source.specs.declared.spot.Spot.{Spot}
 use Rattle.oc_cells.specs.declared.types.CType.{CType, Int, Pointer', Nothing, more_of-CType, end_of-CType}
-use Rattle.oc_tree.specs.declared.typed.TExpr.{TExpr}
-use Rattle.oc_tree.specs.declared.typed.TExprNode.{Number, Read', AddressOf', Binary', Builtin', Row_of-TExpr, end_of-TExpr, more_of-TExpr}
-use Rattle.oc_tree.specs.declared.typed.PlaceNode.{Slot}
-use Rattle.oc_tree.specs.declared.typed.Builtin.TheVariants.{Private, Feed, Reveal, Print}
-use Rattle.oc_tree.specs.declared.typed.PrintPiece.TheVariants.{Text, Decimal}
-use Rattle.oc_tree.specs.declared.typed.TStmt.{TStmt}
-use Rattle.oc_tree.specs.declared.typed.TStmtNode.TheVariants.{Declare, Express}
-use Rattle.oc_tree.specs.declared.typed.TypedFunction.{TypedFunction}
-use Rattle.oc_tree.specs.declared.run.ShownItem.TheVariants.{Print as Printed, Reveal as Revealed}
-use Rattle.oc_tree.specs.declared.outcome.Outcome.TheVariants.{Done, Trap}
+use Rattle.first_tree.specs.declared.typed.TExpr.{TExpr}
+use Rattle.first_tree.specs.declared.typed.TExprNode.{Number, Read', AddressOf', Binary', Builtin', Row_of-TExpr, end_of-TExpr, more_of-TExpr}
+use Rattle.first_tree.specs.declared.typed.PlaceNode.{Slot}
+use Rattle.first_tree.specs.declared.typed.Builtin.TheVariants.{Private, Feed, Reveal, Print}
+use Rattle.first_tree.specs.declared.typed.PrintPiece.TheVariants.{Text, Decimal}
+use Rattle.first_tree.specs.declared.typed.TStmt.{TStmt}
+use Rattle.first_tree.specs.declared.typed.TStmtNode.TheVariants.{Declare, Express}
+use Rattle.first_tree.specs.declared.typed.TypedFunction.{TypedFunction}
+use Rattle.first_tree.specs.declared.run.ShownItem.TheVariants.{Print as Printed, Reveal as Revealed}
+use Rattle.first_tree.specs.declared.outcome.Outcome.TheVariants.{Done, Trap}
 use Rattle.oc_cells.specs.declared.trap.TrapKind.TheVariants.{I1}
-use Rattle.oc_tree.specs.declared.program.Typed.{Typed}
-use Rattle.oc_tree.specs.Typing.{is_typed}
-use Rattle.oc_tree.specs.Clear.{Clear}
+use Rattle.first_tree.specs.declared.program.Typed.{Typed}
+use Rattle.first_tree.specs.Typing.{is_typed}
+use Rattle.first_tree.specs.Clear.{Clear}
 
 abbrev p : ℕ → Spot
 p n = record { line = 1; column = n }

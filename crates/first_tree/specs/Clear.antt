@@ -1,16 +1,16 @@
 -- The clear meaning of a program: the walk whose hidden values are plain integers and whose private words are known.
 use Rattle.std.specs.Prelude.{ℕ, zero, suc, ◌≡◌, ℤ, pos, List, [], ◌∷◌, ◌++◌, length, Some, Bool, true, slice_get, unwrap_or}
 use Rattle.oc_values.specs.Integers.{operate, convert}
-use Rattle.oc_tree.specs.declared.run.ShownItem.{ShownItem}
-use Rattle.oc_tree.specs.declared.run.ShownItem.TheVariants.{Print, Reveal}
-use Rattle.oc_tree.specs.declared.run.ClearSetup.{ClearSetup}
-use Rattle.oc_tree.specs.declared.run.Value.{Value}
-use Rattle.oc_tree.specs.declared.outcome.Outcome.{Outcome}
-use Rattle.oc_tree.specs.declared.outcome.Outcome.TheVariants.{Done}
-use Rattle.oc_tree.specs.declared.program.Typed.{Typed}
-use Rattle.oc_tree.specs.Domain.{Domain}
-use Rattle.oc_tree.specs.Walking.{State, Res, Go, Stop, Ended, Needs}
-use Rattle.oc_tree.specs.Walk.{Known, walk}
+use Rattle.first_tree.specs.declared.run.ShownItem.{ShownItem}
+use Rattle.first_tree.specs.declared.run.ShownItem.TheVariants.{Print, Reveal}
+use Rattle.first_tree.specs.declared.run.ClearSetup.{ClearSetup}
+use Rattle.first_tree.specs.declared.run.Value.{Value}
+use Rattle.first_tree.specs.declared.outcome.Outcome.{Outcome}
+use Rattle.first_tree.specs.declared.outcome.Outcome.TheVariants.{Done}
+use Rattle.first_tree.specs.declared.program.Typed.{Typed}
+use Rattle.first_tree.specs.Domain.{Domain}
+use Rattle.first_tree.specs.Walking.{State, Res, Go, Stop, Ended, Needs}
+use Rattle.first_tree.specs.Walk.{Known, walk}
 
 -- the words of a party
 abbrev pub words_of : List ℤ → List ℤ → ℕ → List ℤ

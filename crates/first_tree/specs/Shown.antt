@@ -1,10 +1,10 @@
 -- The bytes that shown items are printed as, and the status of an outcome.
 use Rattle.std.specs.Prelude.{ℕ, ℤ, List, [], ◌∷◌, ◌++◌, codes}
 use Rattle.std.specs.Fmt.{decimal, signed_decimal}
-use Rattle.oc_tree.specs.declared.run.ShownItem.{ShownItem}
-use Rattle.oc_tree.specs.declared.run.ShownItem.TheVariants.{Print, Reveal, Give}
-use Rattle.oc_tree.specs.declared.outcome.Outcome.{Outcome}
-use Rattle.oc_tree.specs.declared.outcome.Outcome.TheVariants.{Done, Trap, StepsSpent, DealtSpent}
+use Rattle.first_tree.specs.declared.run.ShownItem.{ShownItem}
+use Rattle.first_tree.specs.declared.run.ShownItem.TheVariants.{Print, Reveal, Give}
+use Rattle.first_tree.specs.declared.outcome.Outcome.{Outcome}
+use Rattle.first_tree.specs.declared.outcome.Outcome.TheVariants.{Done, Trap, StepsSpent, DealtSpent}
 
 -- a line for the result of a party
 abbrev pub result_line : ℕ → ℤ → List ℕ

@@ -7,9 +7,9 @@ use Rattle.oc_cells.specs.declared.memory.Address.{Address}
 use Rattle.oc_cells.specs.declared.memory.CellValue.{CellValue}
 use Rattle.oc_cells.specs.declared.memory.Block.{Block}
 use Rattle.oc_cells.specs.declared.trap.TrapKind.{TrapKind}
-use Rattle.oc_tree.specs.declared.outcome.Outcome.{Outcome}
-use Rattle.oc_tree.specs.declared.outcome.Outcome.TheVariants.{Trap, StepsSpent, DealtSpent}
-use Rattle.oc_tree.specs.declared.run.Named.{Named}
+use Rattle.first_tree.specs.declared.outcome.Outcome.{Outcome}
+use Rattle.first_tree.specs.declared.outcome.Outcome.TheVariants.{Trap, StepsSpent, DealtSpent}
+use Rattle.first_tree.specs.declared.run.Named.{Named}
 use Rattle.oc_cells.specs.Memory.{load, store, make, ended}
 
 -- how many cells may live

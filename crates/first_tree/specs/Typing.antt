@@ -8,17 +8,17 @@ use Rattle.oc_values.specs.declared.integers.BinaryOp.TheVariants.{Add, Sub}
 use Rattle.oc_values.specs.Integers.{is_signed, width, is_in_bits}
 use Rattle.oc_cells.specs.declared.types.CType.{CType, Int, Pointer', Nothing, more_of-CType, end_of-CType}
 use Rattle.oc_cells.specs.declared.types.SlotType.{SlotType}
-use Rattle.oc_tree.specs.declared.typed.TExpr.{TExpr}
-use Rattle.oc_tree.specs.declared.typed.TExprNode.{TExprNode, Number, Read', AddressOf', Binary', Builtin', Row_of-TExpr, end_of-TExpr, more_of-TExpr}
-use Rattle.oc_tree.specs.declared.typed.PlaceNode.{PlaceNode, Slot, Deref'}
-use Rattle.oc_tree.specs.declared.typed.Builtin.TheVariants.{Private, Feed, Reveal, Print}
-use Rattle.oc_tree.specs.declared.typed.PrintPiece.{PrintPiece}
-use Rattle.oc_tree.specs.declared.typed.PrintPiece.TheVariants.{Text, Decimal}
-use Rattle.oc_tree.specs.declared.typed.TDeclared.{TDeclared}
-use Rattle.oc_tree.specs.declared.typed.TStmt.{TStmt}
-use Rattle.oc_tree.specs.declared.typed.TStmtNode.{TStmtNode}
-use Rattle.oc_tree.specs.declared.typed.TStmtNode.TheVariants.{Declare, Express}
-use Rattle.oc_tree.specs.declared.typed.TypedFunction.{TypedFunction}
+use Rattle.first_tree.specs.declared.typed.TExpr.{TExpr}
+use Rattle.first_tree.specs.declared.typed.TExprNode.{TExprNode, Number, Read', AddressOf', Binary', Builtin', Row_of-TExpr, end_of-TExpr, more_of-TExpr}
+use Rattle.first_tree.specs.declared.typed.PlaceNode.{PlaceNode, Slot, Deref'}
+use Rattle.first_tree.specs.declared.typed.Builtin.TheVariants.{Private, Feed, Reveal, Print}
+use Rattle.first_tree.specs.declared.typed.PrintPiece.{PrintPiece}
+use Rattle.first_tree.specs.declared.typed.PrintPiece.TheVariants.{Text, Decimal}
+use Rattle.first_tree.specs.declared.typed.TDeclared.{TDeclared}
+use Rattle.first_tree.specs.declared.typed.TStmt.{TStmt}
+use Rattle.first_tree.specs.declared.typed.TStmtNode.{TStmtNode}
+use Rattle.first_tree.specs.declared.typed.TStmtNode.TheVariants.{Declare, Express}
+use Rattle.first_tree.specs.declared.typed.TypedFunction.{TypedFunction}
 use Rattle.oc_cells.specs.Types.{same, same_row}
 use Rattle.oc_values.specs.Kinds.{same_kind}
 
