@@ -1,0 +1,3 @@
+pub mod Frozen
+pub mod InScope
+pub mod FirstFault
