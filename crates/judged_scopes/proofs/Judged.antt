@@ -161,9 +161,12 @@ module _ (g : Context) where
         (one_in c w (of3 xs ys zs h).0, one_in l w (of3 xs ys zs h).1, one_in r w (of3 xs ys zs h).2)
     expr_in (Assign' q u c _ e) w p t h =
         let xs = visits_place g w c in let ys = visits_one g w e in
-        let zs = visit F2 (spot_of e) (not (loses_one g w e u)) in let ws = visit (writing w) q (not (is_kept g w u c)) in
-        (place_in c w (of4 xs ys zs ws h).0, one_in e w (of4 xs ys zs ws h).1,
-        fails (loses_one g w e u) (of4 xs ys zs ws h).2.0, fails (is_kept g w u c) (of4 xs ys zs ws h).3.0)
+        let zs = visit F2 (spot_of e) (not (loses_one g w e u)) in let ws = visit (writing w) q (not (is_kept g w u c)) in (
+          place_in c w (of4 xs ys zs ws h).0,
+          one_in e w (of4 xs ys zs ws h).1,
+          fails (loses_one g w e u) (of4 xs ys zs ws h).2.0,
+          fails (is_kept g w u c) (of4 xs ys zs ws h).3.0,
+        )
     expr_in (Update' op q u c _ e old) w p t h =
         let xs = visits_place g w c in let ys = visits_one g w e in let ws = visit (writing w) q (not (is_kept g w u c)) in
         (place_in c w (of3 xs ys ws h).0, one_in e w (of3 xs ys ws h).1, fails (is_kept g w u c) (of3 xs ys ws h).2.0)
@@ -172,9 +175,10 @@ module _ (g : Context) where
         (one_in e w (front xs ys h), fails (loses_one g w e t) (back xs ys h).0)
     expr_in (Call' f _ es) w p t h =
         let xs = visits_all g w (params_of (slice_get g.functions f)) es in
-        let ys = visit F3 p (not w.hidden || is_marked (slice_get g.functions f)) in
-        (all_in es w (params_of (slice_get g.functions f)) (front xs ys h),
-        where_hidden w.hidden (is_marked (slice_get g.functions f)) (back xs ys h).0)
+        let ys = visit F3 p (not w.hidden || is_marked (slice_get g.functions f)) in (
+          all_in es w (params_of (slice_get g.functions f)) (front xs ys h),
+          where_hidden w.hidden (is_marked (slice_get g.functions f)) (back xs ys h).0,
+        )
     expr_in (Builtin' which _ es) w p t h =
         let xs = visits_all g w (comings which (types_of es)) es in let ys = visit F3 p (not w.hidden) in
         (all_in es w (comings which (types_of es)) (front xs ys h), fails w.hidden (back xs ys h).0)
@@ -238,9 +242,12 @@ module _ (g : Context) where
         (expr_in c.node w c.spot c.ty (front xs ys h), part_in s (in_loop w) vis (back xs ys h))
     stmt_in (For' i c a _ s) w vis p h =
         let xs = visits_header g w i in let ys = visits_maybe g w c in let zs = visits_maybe g w a in
-        let ws = visits_part g (in_loop w) (after_header vis i) s in
-        (header_in i w (of4 xs ys zs ws h).0, maybe_in c w (of4 xs ys zs ws h).1,
-        maybe_in a w (of4 xs ys zs ws h).2, part_in s (in_loop w) (after_header vis i) (of4 xs ys zs ws h).3)
+        let ws = visits_part g (in_loop w) (after_header vis i) s in (
+          header_in i w (of4 xs ys zs ws h).0,
+          maybe_in c w (of4 xs ys zs ws h).1,
+          maybe_in a w (of4 xs ys zs ws h).2,
+          part_in s (in_loop w) (after_header vis i) (of4 xs ys zs ws h).3,
+        )
     stmt_in (Return e) w vis p h =
         let xs = visits_coming g w g.result e in let ys = visit F4 p (not w.parted) in
         (coming_in e w g.result (front xs ys h), fails w.parted (back xs ys h).0)
