@@ -17,7 +17,7 @@ use Rattle.type_rules.specs.Rules.{typed_value, typed_alone}
 use Rattle.type_rules.specs.ProgramRules.{typed_program}
 use Rattle.scope_rules.specs.declared.rules.ScopeRule.TheVariants.{F2}
 use Rattle.scope_rules.specs.FirstFault.{first_fault}
-use Rattle.sampled_scopes.proofs.Building.{at, expr, one, n0, n1, stmt, part, plain, hidden_base, frozen, frozen_hidden, struct_base, field, declared, struct, param, function, source, Keeps, Breaks}
+use Rattle.sampled_scopes.proofs.Building.{at, expr, one, n0, n1, n3, stmt, part, plain, hidden_base, frozen, frozen_hidden, struct_base, field, declared, struct, param, function, source, Keeps, Breaks}
 
 -- void oc_main(void) { int outer; obliv bool c; obliv if (c) { int *q = &outer; } }
 abbrev source0 : Program
@@ -298,3 +298,51 @@ source34 = source [] ((function 6 (codes "oc_main") None [] false (Some ((stmt 2
 broken34 : Breaks source34 F2 68
 unfolding next typed_program typed_value typed_alone first_fault hidden-the_row-TExpr-0 hidden-the_row-TExpr-1 hidden-the_row-TPlace-2 hidden-the_row-TStmt-0 hidden-the_row-TStmt-1 hidden-the_row-CType-0 hidden
 broken34 = refl
+
+-- void oc_main(void) { int outer = 0; obliv bool c = feedOblivBool(ocPrivate(0), 1); obliv if (c) { int *q = &outer; } }
+abbrev source35 : Program
+source35 = source [] ((function 6 (codes "oc_main") None [] false (Some ((stmt 22 (Declare ((declared (field 26 (codes "outer") (plain 22 I32) 0 []) (Some (expr 34 n0))) ∷ []))) ∷ (stmt 37 (Declare ((declared (field 48 (codes "c") (hidden_base 37 KBool) 0 []) (Some (expr 52 (Call' (codes "feedOblivBool") (tt ∷ tt ∷ []) (more_of-Expr (at 66) (Call' (codes "ocPrivate") (tt ∷ []) (more_of-Expr (at 76) n0 end_of-Expr)) (more_of-Expr (at 80) n1 end_of-Expr)))))) ∷ []))) ∷ (stmt 84 (OblivIf' (expr 94 (Named (codes "c"))) tt (part 97 (Block' (tt ∷ []) (more_of-Stmt (at 99) (Declare ((declared (field 104 (codes "q") (plain 99 I32) 1 []) (Some (expr 108 (Unary' Address tt (one 109 (Named (codes "outer"))))))) ∷ [])) end_of-Stmt))) None')) ∷ []))) ∷ []) 119
+
+broken35 : Breaks source35 F2 108
+unfolding next typed_program typed_value typed_alone first_fault hidden-the_row-TExpr-0 hidden-the_row-TExpr-1 hidden-the_row-TPlace-2 hidden-the_row-TStmt-0 hidden-the_row-TStmt-1 hidden-the_row-CType-0 hidden
+broken35 = refl
+
+-- void oc_main(void) { int outer = 0; obliv bool c = feedOblivBool(ocPrivate(0), 1); obliv if (c) { int q = outer; } }
+abbrev source36 : Program
+source36 = source [] ((function 6 (codes "oc_main") None [] false (Some ((stmt 22 (Declare ((declared (field 26 (codes "outer") (plain 22 I32) 0 []) (Some (expr 34 n0))) ∷ []))) ∷ (stmt 37 (Declare ((declared (field 48 (codes "c") (hidden_base 37 KBool) 0 []) (Some (expr 52 (Call' (codes "feedOblivBool") (tt ∷ tt ∷ []) (more_of-Expr (at 66) (Call' (codes "ocPrivate") (tt ∷ []) (more_of-Expr (at 76) n0 end_of-Expr)) (more_of-Expr (at 80) n1 end_of-Expr)))))) ∷ []))) ∷ (stmt 84 (OblivIf' (expr 94 (Named (codes "c"))) tt (part 97 (Block' (tt ∷ []) (more_of-Stmt (at 99) (Declare ((declared (field 103 (codes "q") (plain 99 I32) 0 []) (Some (expr 107 (Named (codes "outer"))))) ∷ [])) end_of-Stmt))) None')) ∷ []))) ∷ []) 117
+
+kept36 : Keeps source36
+unfolding next typed_program typed_value typed_alone first_fault hidden-the_row-TExpr-0 hidden-the_row-TExpr-1 hidden-the_row-TPlace-2 hidden-the_row-TStmt-0 hidden-the_row-TStmt-1 hidden-the_row-CType-0 hidden
+kept36 = refl
+
+-- void oc_main(void) { int tag = 3; obliv int v = 0; obliv bool c; obliv if (c) { frozen int *q = &tag; v = *q; } }
+abbrev source37 : Program
+source37 = source [] ((function 6 (codes "oc_main") None [] false (Some ((stmt 22 (Declare ((declared (field 26 (codes "tag") (plain 22 I32) 0 []) (Some (expr 32 n3))) ∷ []))) ∷ (stmt 35 (Declare ((declared (field 45 (codes "v") (hidden_base 35 I32) 0 []) (Some (expr 49 n0))) ∷ []))) ∷ (stmt 52 (Declare ((declared (field 63 (codes "c") (hidden_base 52 KBool) 0 []) None) ∷ []))) ∷ (stmt 66 (OblivIf' (expr 76 (Named (codes "c"))) tt (part 79 (Block' (tt ∷ tt ∷ []) (more_of-Stmt (at 81) (Declare ((declared (field 93 (codes "q") (frozen 81 I32) 1 []) (Some (expr 97 (Unary' Address tt (one 98 (Named (codes "tag"))))))) ∷ [])) (more_of-Stmt (at 103) (Express (expr 103 (Assign' None tt (one 103 (Named (codes "v"))) tt (one 107 (Unary' Deref tt (one 108 (Named (codes "q")))))))) end_of-Stmt)))) None')) ∷ []))) ∷ []) 114
+
+kept37 : Keeps source37
+unfolding next typed_program typed_value typed_alone first_fault hidden-the_row-TExpr-0 hidden-the_row-TExpr-1 hidden-the_row-TPlace-2 hidden-the_row-TStmt-0 hidden-the_row-TStmt-1 hidden-the_row-CType-0 hidden
+kept37 = refl
+
+-- void oc_main(void) { int tag = 3; obliv int v = 0; obliv bool c; obliv if (c) { frozen int *q = &tag; int *p = q; } }
+abbrev source38 : Program
+source38 = source [] ((function 6 (codes "oc_main") None [] false (Some ((stmt 22 (Declare ((declared (field 26 (codes "tag") (plain 22 I32) 0 []) (Some (expr 32 n3))) ∷ []))) ∷ (stmt 35 (Declare ((declared (field 45 (codes "v") (hidden_base 35 I32) 0 []) (Some (expr 49 n0))) ∷ []))) ∷ (stmt 52 (Declare ((declared (field 63 (codes "c") (hidden_base 52 KBool) 0 []) None) ∷ []))) ∷ (stmt 66 (OblivIf' (expr 76 (Named (codes "c"))) tt (part 79 (Block' (tt ∷ tt ∷ []) (more_of-Stmt (at 81) (Declare ((declared (field 93 (codes "q") (frozen 81 I32) 1 []) (Some (expr 97 (Unary' Address tt (one 98 (Named (codes "tag"))))))) ∷ [])) (more_of-Stmt (at 103) (Declare ((declared (field 108 (codes "p") (plain 103 I32) 1 []) (Some (expr 112 (Named (codes "q"))))) ∷ [])) end_of-Stmt)))) None')) ∷ []))) ∷ []) 118
+
+broken38 : Breaks source38 F2 112
+unfolding next typed_program typed_value typed_alone first_fault hidden-the_row-TExpr-0 hidden-the_row-TExpr-1 hidden-the_row-TPlace-2 hidden-the_row-TStmt-0 hidden-the_row-TStmt-1 hidden-the_row-CType-0 hidden
+broken38 = refl
+
+-- void f(int *p) obliv { *p = 1; } void oc_main(void) { obliv bool c; obliv if (c) { int n; f(&n); f(NULL); } }
+abbrev source39 : Program
+source39 = source [] ((function 6 (codes "f") None ((param 13 (codes "p") (plain 8 I32) 1 array.Plain) ∷ []) true (Some ((stmt 24 (Express (expr 24 (Assign' None tt (one 24 (Unary' Deref tt (one 25 (Named (codes "p"))))) tt (one 29 n1))))) ∷ []))) ∷ (function 39 (codes "oc_main") None [] false (Some ((stmt 55 (Declare ((declared (field 66 (codes "c") (hidden_base 55 KBool) 0 []) None) ∷ []))) ∷ (stmt 69 (OblivIf' (expr 79 (Named (codes "c"))) tt (part 82 (Block' (tt ∷ tt ∷ tt ∷ []) (more_of-Stmt (at 84) (Declare ((declared (field 88 (codes "n") (plain 84 I32) 0 []) None) ∷ [])) (more_of-Stmt (at 91) (Express (expr 91 (Call' (codes "f") (tt ∷ []) (more_of-Expr (at 93) (Unary' Address tt (one 94 (Named (codes "n")))) end_of-Expr)))) (more_of-Stmt (at 98) (Express (expr 98 (Call' (codes "f") (tt ∷ []) (more_of-Expr (at 100) NullPointer end_of-Expr)))) end_of-Stmt))))) None')) ∷ []))) ∷ []) 110
+
+kept39 : Keeps source39
+unfolding next typed_program typed_value typed_alone first_fault hidden-the_row-TExpr-0 hidden-the_row-TExpr-1 hidden-the_row-TPlace-2 hidden-the_row-TStmt-0 hidden-the_row-TStmt-1 hidden-the_row-CType-0 hidden
+kept39 = refl
+
+-- struct S { int *p; }; void oc_main(void) { struct S s; obliv bool c; obliv if (c) { struct S t; struct S u = t = s; } }
+abbrev source40 : Program
+source40 = source ((struct 8 (codes "S") ((field 17 (codes "p") (plain 12 I32) 1 []) ∷ [])) ∷ []) ((function 28 (codes "oc_main") None [] false (Some ((stmt 44 (Declare ((declared (field 53 (codes "s") (struct_base 44 false (codes "S")) 0 []) None) ∷ []))) ∷ (stmt 56 (Declare ((declared (field 67 (codes "c") (hidden_base 56 KBool) 0 []) None) ∷ []))) ∷ (stmt 70 (OblivIf' (expr 80 (Named (codes "c"))) tt (part 83 (Block' (tt ∷ tt ∷ []) (more_of-Stmt (at 85) (Declare ((declared (field 94 (codes "t") (struct_base 85 false (codes "S")) 0 []) None) ∷ [])) (more_of-Stmt (at 97) (Declare ((declared (field 106 (codes "u") (struct_base 97 false (codes "S")) 0 []) (Some (expr 110 (Assign' None tt (one 110 (Named (codes "t"))) tt (one 114 (Named (codes "s"))))))) ∷ [])) end_of-Stmt)))) None')) ∷ []))) ∷ []) 120
+
+broken40 : Breaks source40 F2 114
+unfolding next typed_program typed_value typed_alone first_fault hidden-the_row-TExpr-0 hidden-the_row-TExpr-1 hidden-the_row-TPlace-2 hidden-the_row-TStmt-0 hidden-the_row-TStmt-1 hidden-the_row-CType-0 hidden
+broken40 = refl
