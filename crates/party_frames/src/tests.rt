@@ -61,3 +61,14 @@ fn setup_digests(rt: HostRuntime) -> Result<(), Fail> {
     }
     Ok(())
 }
+
+#[test]
+fn shown(rt: HostRuntime) -> Result<(), Fail> {
+    let mut outbox = Outbox::new(rt.alloc())?;
+    let mut bits = [true; 32];
+    bits[0] = false;
+    write_bits(&mut outbox, FrameKind::Shown, &bits);
+    let frame = [7u8, 0, 0, 0, 4, 0xfe, 0xff, 0xff, 0xff];
+    assert_eq!(rt; outbox.held(), frame.as_slice());
+    Ok(())
+}
