@@ -18,3 +18,6 @@ pub use both_parties::{Duet, DuetFault, Move};
 pub use boxes::{ByteBox, Inbox, MOST_FRAME_BYTES, MOST_PRINT_BYTES, Outbox, PrintBox};
 pub use frames::{FrameKind, Header, first_wrong_byte_is_first, write_bits, write_frame};
 pub use setup::setup_digest;
+
+#[cfg(test)]
+mod tests;
