@@ -2,7 +2,7 @@
 use Rattle.std.proofs.Common.{ℕ, ◌≡◌, ◌≤◌, List, Option, Some, Result, Ok, Err, sym, subst, arith}
 use Rattle.std.specs.Prelude.{IfSome, ◌≢◌}
 use Rattle.oblivc_main.specs.Reading.{Told, Holds}
-use Rattle.oblivc_main.specs.DealWords.{DealAsked}
+use Rattle.oblivcc_commands.specs.Asked.{DealAsked}
 use Rattle.oblivc_main.specs.DealEndings.{PutEnds, DealEnds, first_file, second_file}
 use Rattle.oblivc_main.specs.declared.deal.DealFile.TheVariants.{FirstFile, SecondFile}
 use Rattle.oblivc_main.specs.declared.deal.DealStop.{DealStop}

@@ -1,4 +1,3 @@
-pub mod Fits
 pub mod InputForm
 pub mod Fronts
 pub mod Stages
@@ -6,5 +5,4 @@ pub mod Files
 pub mod Causes
 pub mod Completing
 pub mod DealFiles
-pub mod DealOptions
 pub mod Refusing

@@ -4,7 +4,7 @@ use Rattle.oc_outside.specs.Counts.{Rose}
 use Rattle.dealt_transfer.specs.Dealing.{sender_dealt, receiver_dealt}
 use Rattle.dealt_transfer.specs.Files.{sender_file, receiver_file}
 use Rattle.oblivc_main.specs.Reading.{Told, Holds}
-use Rattle.oblivc_main.specs.DealWords.{DealAsked, IsDeal}
+use Rattle.oblivcc_commands.specs.Asked.{DealAsked, IsDeal}
 use Rattle.oblivc_main.specs.declared.deal.DealFile.{DealFile}
 use Rattle.oblivc_main.specs.declared.deal.DealFile.TheVariants.{FirstFile, SecondFile}
 use Rattle.oblivc_main.specs.declared.deal.DealStop.{DealStop}

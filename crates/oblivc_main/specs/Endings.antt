@@ -12,6 +12,7 @@ use Rattle.first_tree.specs.Clear.{Clear}
 use Rattle.first_tree.specs.Shown.{shown}
 use Rattle.clear_run.specs.declared.run.ClearRun.{ClearRun}
 use Rattle.dealt_transfer.specs.Halves.{most_transfers}
+use Rattle.oblivcc_commands.specs.Asked.{ClearAsked}
 use Rattle.oblivc_main.specs.Reading.{Told, Accepts, Refuses, HasWord, HasNoWord, Unreadable}
 use Rattle.oblivc_main.specs.declared.stop.Stop.{Stop}
 use Rattle.oblivc_main.specs.declared.stop.Stop.TheVariants.{Refused, Unread, WrongInput, Unwritten, NoMemory}
@@ -23,15 +24,13 @@ abbrev pub setup_of : ℤ → ℤ → ClearSetup
 setup_of first second = record { public = []; first = first ∷ []; second = second ∷ []; dealt = most_transfers; budget = 1000000000 }
 
 -- the files of a call: what the vault tells of each name, its faults before and after, the name that failed last, and
--- the names of the source and of the inputs of both parties
+-- what `clear` asks for: the names of the source and of the inputs of both parties
 pub record Files : Type 0 where
   pub told : Told
   pub faults_before : ℕ
   pub faults_after : ℕ
   pub failed : Option (List ℕ)
-  pub source : List ℕ
-  pub first : List ℕ
-  pub second : List ℕ
+  pub asked : ClearAsked
 
 -- the output of a call: its faults before and after, and what was written to it before and after
 pub record Output : Type 0 where
@@ -45,9 +44,9 @@ pub record Shows (f : Files) (items : List ShownItem) : Type 0 where
   pub tree : Typed
   pub first_word : ℤ
   pub second_word : ℤ
-  pub accepted : Accepts f.told f.source tree
-  pub first_input : HasWord f.told f.first first_word
-  pub second_input : HasWord f.told f.second second_word
+  pub accepted : Accepts f.told f.asked.file tree
+  pub first_input : HasWord f.told f.asked.first first_word
+  pub second_input : HasWord f.told f.asked.second second_word
   pub meaning : Clear tree (setup_of first_word second_word) items Done
 
 -- all that the program shows was printed, and no fault rose
@@ -63,20 +62,20 @@ abbrev pub PrintsFront : Files → Output → Type 0
 PrintsFront f o = (items : List ShownItem) × Shows f items × (n : ℕ) × (n ≤ length (shown items)) × (o.after ≡ appended (take n (shown items)) o.before)
 
 -- the name of one of the three files
-abbrev pub named : List ℕ → List ℕ → List ℕ → Which → List ℕ
-named source first second Source = source
-named source first second First = first
-named source first second Second = second
+abbrev pub named : ClearAsked → Which → List ℕ
+named d Source = d.file
+named d First = d.first
+named d Second = d.second
 
 -- the name of a file of the call
 abbrev pub name_of : Files → Which → List ℕ
-name_of f which = named f.source f.first f.second which
+name_of f which = named f.asked which
 
 -- what was read before a file
 abbrev pub ReadsUpTo : Files → Which → Type 0
 ReadsUpTo f Source = Unit {0}
-ReadsUpTo f First = (t : Typed) × Accepts f.told f.source t
-ReadsUpTo f Second = (t : Typed) × Accepts f.told f.source t × (word : ℤ) × HasWord f.told f.first word
+ReadsUpTo f First = (t : Typed) × Accepts f.told f.asked.file t
+ReadsUpTo f Second = (t : Typed) × Accepts f.told f.asked.file t × (word : ℤ) × HasWord f.told f.asked.first word
 
 -- this file can't be read, and those before it were read and have their form
 abbrev pub IsUnreadable : Files → Which → Type 0
@@ -85,13 +84,13 @@ IsUnreadable f which = ReadsUpTo f which × Unreadable f.told f.faults_before f.
 -- this input file hasn't the form of one word, and the files before it were read and have theirs
 abbrev pub IsWrong : Files → Which → Type 0
 IsWrong f Source = ⊥
-IsWrong f First = ReadsUpTo f First × HasNoWord f.told f.first
-IsWrong f Second = ReadsUpTo f Second × HasNoWord f.told f.second
+IsWrong f First = ReadsUpTo f First × HasNoWord f.told f.asked.first
+IsWrong f Second = ReadsUpTo f Second × HasNoWord f.told f.asked.second
 
 -- the cause of each end
 abbrev pub Ends : Files → Output → Result (Unit {0}) Stop → Type 0
 Ends f o (Ok u) = PrintsAll f o
-Ends f o (Err (Refused r)) = Refuses f.told f.source r × PrintsNothing o
+Ends f o (Err (Refused r)) = Refuses f.told f.asked.file r × PrintsNothing o
 Ends f o (Err (Unread which)) = IsUnreadable f which × PrintsNothing o
 Ends f o (Err (WrongInput which)) = IsWrong f which × PrintsNothing o
 Ends f o (Err Unwritten) = Rose o.faults_before o.faults_after × PrintsFront f o
@@ -100,7 +99,7 @@ Ends f o (Err NoMemory) = PrintsNothing o ⊎ PrintsFront f o
 -- what reading the files and running the program answers
 abbrev pub Runs : Files → Result ClearRun Stop → Type 0
 Runs f (Ok run) = Shows f run.shown
-Runs f (Err (Refused r)) = Refuses f.told f.source r
+Runs f (Err (Refused r)) = Refuses f.told f.asked.file r
 Runs f (Err (Unread which)) = IsUnreadable f which
 Runs f (Err (WrongInput which)) = IsWrong f which
 Runs f (Err Unwritten) = ⊥

@@ -1,7 +1,3 @@
-pub mod DealWords
-pub mod DealGiven
-pub mod Words
-pub mod Fitting
 pub mod Inputs
 pub mod InputParts
 pub mod Sources

@@ -7,8 +7,9 @@ use Rattle.oblivc_main.specs.Sources.{IsTyped}
 use Rattle.oblivc_main.specs.declared.stop.Refusal.{Refusal}
 use Rattle.oblivc_main.specs.Inputs.{IsInput}
 use Rattle.oblivc_main.specs.Reading.{Told, Refuses}
-use Rattle.oblivc_main.specs.Words.{IsClear, Usage, Breaks}
-use Rattle.oblivc_main.specs.DealWords.{DealAsked, IsDeal, IsDealCommand}
+use Rattle.command_grammar.specs.Grammar.{Breaks, Usage}
+use Rattle.oblivcc_commands.specs.Table.{commands}
+use Rattle.oblivcc_commands.specs.Asked.{ClearAsked, DealAsked, IsClear, IsDeal}
 use Rattle.oblivc_main.specs.DealEndings.{Writing, HoldsBoth, DealEnds, IsUnwritable, Makes, file_name}
 use Rattle.oblivc_main.specs.declared.deal.DealFile.{DealFile}
 use Rattle.oblivc_main.specs.declared.deal.DealStop.{DealStop}
@@ -31,13 +32,13 @@ pub record Call : Type 0 where
   pub out : Output
   pub err : Output
 
--- the files of a call with these names
-abbrev pub files_of : Call → List ℕ → List ℕ → List ℕ → Files
-files_of c source first second = record { told = c.told; faults_before = c.faults_before; faults_after = c.faults_after; failed = c.failed; source = source; first = first; second = second }
+-- the files of a call that asks for this
+abbrev pub files_of : Call → ClearAsked → Files
+files_of c d = record { told = c.told; faults_before = c.faults_before; faults_after = c.faults_after; failed = c.failed; asked = d }
 
 -- the words are a `clear`, and this holds of its files
 abbrev pub OfCommand : Call → (Files → Type 0) → Type 0
-OfCommand c fact = (source : List ℕ) × (first : List ℕ) × (second : List ℕ) × IsClear c.words source first second × fact (files_of c source first second)
+OfCommand c fact = (d : ClearAsked) × IsClear c.words d × fact (files_of c d)
 
 -- what a call wrote to files
 abbrev pub writing_of : Call → Writing
@@ -61,7 +62,7 @@ SaysUnwritable e w d = (file : DealFile) × IsUnwritable w d file × Says e (fil
 
 -- the source is refused: the rule and the place are on the line
 abbrev pub SaysRefused : Output → Files → Type 0
-SaysRefused e f = (r : Refusal) × Refuses f.told f.source r × Says e (refused_line r)
+SaysRefused e f = (r : Refusal) × Refuses f.told f.asked.file r × Says e (refused_line r)
 
 -- all was printed, or both files of `deal` were written, and no line was said
 abbrev pub IsDone : Call → Type 0
@@ -73,7 +74,7 @@ IsRefused c = OfCommand c (λ f. SaysRefused c.err f) × PrintsNothing c.out
 
 -- the words aren't a command: `usage K` was said, and nothing was printed
 abbrev pub IsUsage : Call → Type 0
-IsUsage c = (k : ℕ) × Usage c.words k × PrintsNothing c.out × Says c.err (usage_line k)
+IsUsage c = (k : ℕ) × Usage commands c.words k × PrintsNothing c.out × Says c.err (usage_line k)
 
 -- a file can't be read or written: the line with its name was said, and nothing was printed
 abbrev pub IsFileFault : Call → Type 0
@@ -108,22 +109,22 @@ IsFaultless c = (Rose c.faults_before c.faults_after → ⊥) × (Rose c.out.fau
 -- the vault tells of each file of the command that it has its form
 pub record HasForms (f : Files) : Type 0 where
   pub source : List ℕ
-  pub source_told : f.told f.source ≡ Some (Some source)
+  pub source_told : f.told f.asked.file ≡ Some (Some source)
   pub tree : Typed
   pub accepted : IsTyped source tree
   pub first : List ℕ
-  pub first_told : f.told f.first ≡ Some (Some first)
+  pub first_told : f.told f.asked.first ≡ Some (Some first)
   pub first_word : ℤ
   pub first_form : IsInput first first_word
   pub second : List ℕ
-  pub second_told : f.told f.second ≡ Some (Some second)
+  pub second_told : f.told f.asked.second ≡ Some (Some second)
   pub second_word : ℤ
   pub second_form : IsInput second second_word
 
 -- where the words are a command, all its files that are read have their form and nothing fails, the answer is 0, or want
 -- of memory
 abbrev pub Completes : Call → ℕ → Type 0
-Completes c status = OfCommand c HasForms ⊎ IsDealCommand c.words → IsFaultless c → (status ≡ 0) ⊎ (status ≡ 10)
+Completes c status = OfCommand c HasForms ⊎ ((d : DealAsked) × IsDeal c.words d) → IsFaultless c → (status ≡ 0) ⊎ (status ≡ 10)
 
 -- what the vault tells stays, but of the files that the words ask to make
 abbrev pub Keeps : Call → Type 0
@@ -137,13 +138,13 @@ status_of (WrongInput which) = 9
 status_of Unwritten = 11
 status_of NoMemory = 10
 
--- the line of a stop of `clear`, whose source and inputs have these names
-abbrev pub line_of : List ℕ → List ℕ → List ℕ → Stop → List ℕ
-line_of source first second (Refused r) = refused_line r
-line_of source first second (Unread which) = file_line (named source first second which)
-line_of source first second (WrongInput which) = input_line
-line_of source first second Unwritten = output_line
-line_of source first second NoMemory = memory_line
+-- the line of a stop of `clear` that asks for this
+abbrev pub line_of : ClearAsked → Stop → List ℕ
+line_of d (Refused r) = refused_line r
+line_of d (Unread which) = file_line (named d which)
+line_of d (WrongInput which) = input_line
+line_of d Unwritten = output_line
+line_of d NoMemory = memory_line
 
 -- the status of a stop of `deal`
 abbrev pub deal_status_of : DealStop → ℕ
@@ -167,7 +168,7 @@ DealAnswered w e d status =
 
 -- words before one that isn't text: the line was said, with its number, and nothing was made
 abbrev pub IsBroken : Call → ℕ → Type 0
-IsBroken c status = (k : ℕ) × Breaks c.words k × PrintsNothing c.out × Said c.err (usage_line k) 2 status × ((name : List ℕ) → c.told_after name ≡ c.told name)
+IsBroken c status = (k : ℕ) × Breaks commands c.words k × PrintsNothing c.out × Said c.err (usage_line k) 2 status × ((name : List ℕ) → c.told_after name ≡ c.told name)
 
 -- the answer for a process, whose words are told by nothing: it is that for some words
 abbrev pub Served : (List (List ℕ) → Call) → ℕ → Type 0

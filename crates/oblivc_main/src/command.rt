@@ -2,6 +2,7 @@
 
 ghost use Rattle.std.specs.Prelude.{◌≡◌, ◌≤◌, [], ◌∷◌, IfOk};
 ghost use Rattle.first_tree.specs.Clear.{Clear};
+ghost use Rattle.oblivcc_commands.specs.Views.{clear_of};
 ghost use Rattle.oblivc_main.specs.Endings.{Ends, Runs, setup_of};
 
 use crate::printing::print_all;
@@ -10,6 +11,7 @@ use crate::stop::{Stop, Which};
 use clear_run::{ClearRun, run_first};
 use dealt_transfer::MOST_TRANSFERS;
 use first_tree::{ClearSetup, Typed};
+use oblivcc_commands::ClearWords;
 use oc_outside::{PutEnd, Sink, Vault};
 use oc_values::{Items, NoMemory};
 use std::alloc::Global;
@@ -43,9 +45,7 @@ fn run_words(alloc: Global, typed: &Typed, first: i64, second: i64) -> Result<Cl
 /// Reads the source and both inputs, in this order, and runs the program.
 fn run_files<V: Vault>(
     alloc: Global,
-    file: &str,
-    first: &str,
-    second: &str,
+    asked: &ClearWords<'_>,
     files: &mut V,
 ) -> Result<ClearRun, Stop>
     ensures end { Runs (record {
@@ -53,16 +53,14 @@ fn run_files<V: Vault>(
       faults_before = V.faults files.old;
       faults_after = V.faults files.new;
       failed = V.failed files.new;
-      source = file.now;
-      first = first.now;
-      second = second.now;
+      asked = clear_of asked.now;
     }) result }
     ensures never_falls { V.faults files.old ≤ V.faults files.new }
     ensures unchanged { V.contents files.new ≡ V.contents files.old }
 {
-    let typed = read_source(alloc, files, file)?;
-    let first_word = read_word(alloc, files, first, Which::First)?;
-    let second_word = read_word(alloc, files, second, Which::Second)?;
+    let typed = read_source(alloc, files, asked.file)?;
+    let first_word = read_word(alloc, files, asked.first, Which::First)?;
+    let second_word = read_word(alloc, files, asked.second, Which::Second)?;
     match run_words(alloc, &typed, first_word, second_word) {
         Ok(run) => Ok(run),
         Err(_) => Err(Stop::NoMemory),
@@ -73,9 +71,7 @@ fn run_files<V: Vault>(
 /// always ends, so its outcome isn't asked for.
 pub fn clear<V: Vault, S: Sink>(
     alloc: Global,
-    file: &str,
-    first: &str,
-    second: &str,
+    asked: &ClearWords<'_>,
     files: &mut V,
     out: &mut S,
 ) -> Result<(), Stop>
@@ -84,9 +80,7 @@ pub fn clear<V: Vault, S: Sink>(
       faults_before = V.faults files.old;
       faults_after = V.faults files.new;
       failed = V.failed files.new;
-      source = file.now;
-      first = first.now;
-      second = second.now;
+      asked = clear_of asked.now;
     }) (record {
       faults_before = S.faults out.old;
       faults_after = S.faults out.new;
@@ -97,7 +91,7 @@ pub fn clear<V: Vault, S: Sink>(
     ensures out_never_falls { S.faults out.old ≤ S.faults out.new }
     ensures unchanged { V.contents files.new ≡ V.contents files.old }
 {
-    let run = run_files(alloc, file, first, second, files)?;
+    let run = run_files(alloc, asked, files)?;
     match print_all(alloc, out, run.shown.as_slice()) {
         PutEnd::Done => Ok(()),
         PutEnd::Failed => Err(Stop::Unwritten),

@@ -4,14 +4,14 @@ ghost use Rattle.std.specs.Prelude.{◌≡◌, ◌≢◌, ◌≤◌, ℕ, List, 
 ghost use Rattle.dealt_transfer.specs.Halves.{most_transfers};
 ghost use Rattle.dealt_transfer.specs.Dealing.{sender_dealt, receiver_dealt};
 ghost use Rattle.dealt_transfer.specs.Files.{sender_file, receiver_file};
-ghost use Rattle.oblivc_main.specs.DealGiven.{deal_of};
+ghost use Rattle.oblivcc_commands.specs.Views.{deal_of};
 ghost use Rattle.oblivc_main.specs.DealEndings.{DealEnds, IsFileOf, PutEnds};
 ghost use Rattle.oblivc_main.specs.Statuses.{DealAnswered, Said, deal_line_of, deal_status_of};
 
-use crate::deal_words::DealWords;
 use crate::saying::{line_for_file, say_line, say_memory};
 use crate::statuses::{DONE, FILE};
 use dealt_transfer::{deal, write_receiver_half, write_sender_half};
+use oblivcc_commands::DealWords;
 use oc_outside::{Sink, Vault, WriteAnswer};
 use oc_values::{Items, NoMemory};
 use std::alloc::Global;

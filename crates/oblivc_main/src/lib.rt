@@ -10,16 +10,14 @@
 //!
 //! `Answered` in `specs/Statuses.antt` says of each status why it comes and what was written: there is no other
 //! status. `Completes` says that nothing but want of memory stops a command whose files have their form while no
-//! file and no stream fails, and `Keeps` that no file changes but those that `deal` makes. What a source, an input
-//! file and the words have to be stands in `specs/Sources.antt`, `specs/Inputs.antt`, `specs/Words.antt` and
-//! `specs/DealWords.antt`.
+//! file and no stream fails, and `Keeps` that no file changes but those that `deal` makes. What a source and an input
+//! file have to be stands in `specs/Sources.antt` and `specs/Inputs.antt`, what the words have to be in the crate
+//! `oblivcc_commands`.
 #![tactic(auto)]
 
 mod arguments;
 mod command;
-mod commands;
 mod deal;
-mod deal_words;
 mod inputs;
 mod printing;
 mod program;
@@ -27,7 +25,6 @@ mod reading;
 mod saying;
 mod statuses;
 mod stop;
-mod words;
 
 pub use arguments::serve_process;
 pub use program::oblivcc;

@@ -1,40 +1,39 @@
 //! The whole program, over any outside.
 
 ghost use Rattle.std.specs.Prelude.{◌≡◌, ◌-◌, ◌^◌, ◌<◌, ℕ};
-ghost use Rattle.oblivc_main.specs.Words.{texts, Breaks};
+ghost use Rattle.command_grammar.specs.Grammar.{Breaks, texts};
+ghost use Rattle.oblivcc_commands.specs.Table.{commands};
 ghost use Rattle.oblivc_main.specs.Lines.{usage_line};
 ghost use Rattle.oblivc_main.specs.Statuses.{Answered, Completes, Keeps, Said};
 
 use crate::command::clear;
-use crate::commands::find_misfit;
 use crate::deal::run_deal;
-use crate::deal_words::{is_deal, read_deal};
 use crate::saying::{line_for_usage, report, say_line};
 use crate::statuses::{DONE, USAGE};
-use crate::words::{find_fault, word};
+use oblivcc_commands::{Asked, find_break, read_command};
 use oc_outside::{Dialer, Sink, Vault};
 use std::alloc::Global;
 
 /// Says that words aren't a command, where the word after them isn't text: no command begins with that one,
 /// if with those before it.
 pub fn refuse_words<E: Sink>(alloc: Global, words: &[String], err: &mut E) -> u8
-    ensures { (k : ℕ) × Breaks (texts words.now) k × Said (record {
+    ensures { (k : ℕ) × Breaks commands (texts words.now) k × Said (record {
       faults_before = E.faults err.old;
       faults_after = E.faults err.new;
       before = E.written err.old;
       after = E.written err.new;
     }) (usage_line k) 2 result }
 {
-    let k = find_misfit(words).unwrap_or(words.len());
+    let k = find_break(words);
     say_line(err, line_for_usage(alloc, k), USAGE)
 }
 
 /// Does what the words of a command line ask for, and answers the status to exit with.
 ///
 /// `clear FILE --input1 F --input2 F` reads the source of that name and one word of each party, runs the
-/// program in the clear and prints to `out` what it shows. `deal --key K --count N --out1 F --out2 F`, its
-/// options in any order, writes the sender's half of N transfers that is dealt of the key K to the first file,
-/// and then the receiver's half to the second; it prints nothing. The statuses:
+/// program in the clear and prints to `out` what it shows. `deal --key K --count N --out1 F --out2 F` writes the
+/// sender's half of N transfers that is dealt of the key K to the first file, and then the receiver's half to the
+/// second; it prints nothing. Options stand in any order. The statuses:
 ///
 /// - 0: all was printed or written to the files, and nothing was written to `err`;
 /// - 1: the source is refused; `err` says `refused RULE LINE:COLUMN`, with the first rule that it breaks and where:
@@ -89,20 +88,12 @@ pub fn oblivcc<V: Vault, D: Dialer, S: Sink, E: Sink>(
     }) }
     ensures dialer { dialer.new ≡ dialer.old }
 {
-    if is_deal(words) {
-        return match read_deal(words) {
-            Ok(asked) => run_deal(alloc, &asked, files, err),
-            Err(k) => say_line(err, line_for_usage(alloc, k), USAGE),
-        };
-    }
-    if let Some(k) = find_fault(words) {
-        return say_line(err, line_for_usage(alloc, k), USAGE);
-    }
-    let source = word(words, 1);
-    let first = word(words, 3);
-    let second = word(words, 5);
-    match clear(alloc, source, first, second, files, out) {
-        Ok(()) => DONE,
-        Err(stop) => report(alloc, stop, source, first, second, err),
+    match read_command(words) {
+        Ok(Asked::Clear(asked)) => match clear(alloc, &asked, files, out) {
+            Ok(()) => DONE,
+            Err(stop) => report(alloc, stop, &asked, err),
+        },
+        Ok(Asked::Deal(asked)) => run_deal(alloc, &asked, files, err),
+        Err(k) => say_line(err, line_for_usage(alloc, k), USAGE),
     }
 }

@@ -1,11 +1,13 @@
 //! The line on the error stream.
 
 ghost use Rattle.std.specs.Prelude.{◌≡◌, ℕ, List, IfOk, string_bytes};
+ghost use Rattle.oblivcc_commands.specs.Views.{clear_of};
 ghost use Rattle.oblivc_main.specs.Lines.{usage_line, rule_name, refused_line, file_line, memory_line};
 ghost use Rattle.oblivc_main.specs.Statuses.{Said, line_of, status_of};
 
 use crate::statuses::{FILE, INPUT, NO_MEMORY, OUTPUT, REFUSED};
 use crate::stop::{Refusal, Rule, Stop, Which};
+use oblivcc_commands::ClearWords;
 use oc_lexer::LexRule;
 use oc_outside::{PutEnd, Sink, write_all};
 use oc_parser::ParseRule;
@@ -97,28 +99,21 @@ pub fn say_line<E: Sink>(err: &mut E, line: Result<String, AllocError>, status: 
 }
 
 /// Says why the command ended, and answers its status.
-pub fn report<E: Sink>(
-    alloc: Global,
-    stop: Stop,
-    source: &str,
-    first: &str,
-    second: &str,
-    err: &mut E,
-) -> u8
+pub fn report<E: Sink>(alloc: Global, stop: Stop, asked: &ClearWords<'_>, err: &mut E) -> u8
     ensures { Said (record {
       faults_before = E.faults err.old;
       faults_after = E.faults err.new;
       before = E.written err.old;
       after = E.written err.new;
-    }) (line_of source.now first.now second.now stop) (status_of stop) result }
+    }) (line_of (clear_of asked.now) stop) (status_of stop) result }
 {
     match stop {
         Stop::Refused(refusal) => say_line(err, line_for_refusal(alloc, refusal), REFUSED),
         Stop::Unread(which) => {
             let name = match which {
-                Which::Source => source,
-                Which::First => first,
-                Which::Second => second,
+                Which::Source => asked.file,
+                Which::First => asked.first,
+                Which::Second => asked.second,
             };
             say_line(err, line_for_file(alloc, name), FILE)
         }

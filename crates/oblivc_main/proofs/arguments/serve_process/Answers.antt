@@ -1,5 +1,5 @@
 use Rattle.std.proofs.Common.{refl, inl, inr, []}
-use Rattle.oblivc_main.specs.Words.{texts}
+use Rattle.command_grammar.specs.Grammar.{texts}
 use Rattle.oblivc_main.specs.Statuses.{without_memory}
 use Rattle.oblivc_main.proofs.arguments.serve_process.Goals as goal
 

@@ -1,5 +1,5 @@
 use Rattle.std.proofs.Common.{subst, ◌∙◌}
-use Rattle.oblivc_main.specs.DealGiven.{deal_of}
+use Rattle.oblivcc_commands.specs.Views.{deal_of}
 use Rattle.oblivc_main.specs.DealEndings.{first_file}
 use Rattle.oblivc_main.specs.Reading.{Holds}
 use Rattle.oblivc_main.proofs.DealFiles.{second_put}
