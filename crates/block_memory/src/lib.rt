@@ -17,6 +17,3 @@ pub use blocks::{Blocks, MakeRefusal};
 pub use hidden::{HiddenCell, copy_value};
 pub use laws::operands_agree;
 pub use oc_cells::{Address, CType, Cell, CellValue, StructType, TrapKind};
-
-#[cfg(test)]
-mod tests;

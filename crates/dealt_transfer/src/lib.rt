@@ -25,6 +25,3 @@ pub use half::{MOST_TRANSFERS, ReceiverHalf, SenderHalf};
 pub use reading::{read_receiver_half, read_sender_half};
 pub use transfer::{choice_bit, first_unmatched, mask_pair, open_pair};
 pub use writing::{write_receiver_half, write_sender_half};
-
-#[cfg(test)]
-mod tests;

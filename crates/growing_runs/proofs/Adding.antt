@@ -25,7 +25,7 @@ use Rattle.oc_walk.specs.declared.run.Source.{Source}
 use Rattle.oc_walk.specs.declared.run.Source.TheVariants.{Word, Public}
 use Rattle.oc_walk.specs.Domain.{Domain}
 use Rattle.oc_walk.specs.Walking.{Res, Go, Stop, Halt, Odd, after, bind, pure, odd, choose, still, stilled, own, answered, loads, keeps, stores, makes, takes_answer, answer, pays, transfers, spent, step, enter, block_of, live_limit, Known}
-use Rattle.oc_walk.specs.Cells.{signed_by, Goal, Only, V, M, S, valued, reads, fits_leaf, cell_of, puts, picks, writes_hidden, writes, gets, fetches, sets, follows, addressed, moves, same_places, checks, starts_copy, copied, nought, opens, allocates, frees, typed_slot, variable, slot}
+use Rattle.oc_walk.specs.Cells.{signed_by, Goal, Only, V, M, S, valued, reads, fits_leaf, cell_of, puts, picks, writes_hidden, writes, gets, fetches, sets, follows, addressed, moves, same_places, checks_copy, starts_copy, copies_all, nought, opens, allocates, frees, typed_slot, variable, slot}
 use Rattle.oc_walk.specs.Operations.{tests, condition, hidden_of, publicly_one, hiddenly_one, unaries, divided, publicly, hiddenly, operates, turns}
 use Rattle.oc_walk.specs.Exchange.{count_of, cost, counted, word, feeds, reveals, gives, known_word, public_word, prints}
 use Rattle.growing_runs.specs.Laws.{end_of}
@@ -291,17 +291,17 @@ module _ (D : Domain) (R : D.Own → D.Own → Type 0) (adds : Adds D R) where
   pub turns_goes : (p : Spot) (from to : IntKind) (up : Bool) (v : V D) → Goes D R (still (turns D p from to up v))
   turns_goes p from to up v = lift (turns_grows p from to up v)
 
-  checks_grows : (p : Spot) (to from : Address) (ls : List CType) → Grows D R (checks D p to from ls)
+  checks_grows : (p : Spot) (to from : Address) (ls : List CType) → Grows D R (checks_copy D p to from ls)
   checks_grows p to from ls = record { run = λ x. answered_at p x ((then) (loadable x.blocks from ls) (λ _. all_storable x.blocks to ls)) }
 
   pub starts_goes : (p : Spot) (ls : List CType) (a : Address) (v : V D) → Goes D R (still (starts_copy D p ls a v))
   starts_goes p ls a v = lift (either (has_size ls) (next (addressed_grows p v) (λ b. next (checks_grows p a b ls) (λ _. rests b))) (ends _))
 
-  copied_grows : (p : Spot) (e : D.Enable) (ls : List CType) (to from : Address) → Grows D R (copied D p e ls to from)
+  copied_grows : (p : Spot) (e : D.Enable) (ls : List CType) (to from : Address) → Grows D R (copies_all D p e ls to from)
   copied_grows p e [] to from = rests _
   copied_grows p e (l ∷ ls) to from = next (next (reads_grows p l from) (λ v. writes_grows p e l to v)) (λ _. copied_grows p e ls _ _)
 
-  pub copied_goes : (p : Spot) (e : D.Enable) (ls : List CType) (to from : Address) → Goes D R (still (copied D p e ls to from))
+  pub copied_goes : (p : Spot) (e : D.Enable) (ls : List CType) (to from : Address) → Goes D R (still (copies_all D p e ls to from))
   copied_goes p e ls to from = lift (copied_grows p e ls to from)
 
   enter_goes : (n b : ℕ) → Goes D R (enter n b)

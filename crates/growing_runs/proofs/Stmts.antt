@@ -18,7 +18,7 @@ use Rattle.oc_walk.specs.Domain.{Domain, Parts, AllOf, FirstOf, SecondOf}
 use Rattle.oc_walk.specs.Walking.{Res, Go, Stop, close, leave, scoped, Site, deeper}
 use Rattle.oc_walk.specs.Cells.{S}
 use Rattle.oc_walk.specs.Expressions.{Under, under}
-use Rattle.oc_walk.specs.Statements.{started, declares, declares_all, proceed, ended, turn, again, loop, header, tested_or, advances, gives_back, parted, both, node, part, stmts, other, listed}
+use Rattle.oc_walk.specs.Statements.{started, declares, declares_all, proceed, part_done, round, again, loop, header, tested_or, advances, gives_back, parted, both, node, part, stmts, other, listed}
 use Rattle.growing_runs.specs.Laws.{end_of}
 use Rattle.growing_runs.proofs.Adding.{Adds, Spent, Goes, spent_more, seq, lift, owns, answers, stops, chosen, puts_goes, condition_goes, opens_goes, typed_goes, step_goes}
 use Rattle.growing_runs.proofs.Exprs.{Calls, whole_goes, tested_goes, initializes_goes}
@@ -53,13 +53,13 @@ module _ (D : Domain) (R : D.Own → D.Own → Type 0) (adds : Adds D R) where
   proceed_goes Continued h = answers D R adds _
   proceed_goes (Back v) h = answers D R adds _
 
-  ended_goes : (f : Flow D.Hidden) {adv : S D → Res (S D) (Unit {0})} → Fine adv → Fine (ended D adv f)
+  ended_goes : (f : Flow D.Hidden) {adv : S D → Res (S D) (Unit {0})} → Fine adv → Fine (part_done D adv f)
   ended_goes Next h = seq D R adds h (λ _. answers D R adds _)
   ended_goes Continued h = seq D R adds h (λ _. answers D R adds _)
   ended_goes Broke h = answers D R adds _
   ended_goes (Back v) h = answers D R adds _
 
-  turn_goes : {c : S D → Res (S D) Bool} {b : S D → Res (S D) (Flow D.Hidden)} {adv : S D → Res (S D) (Unit {0})} → Fine c → Fine b → Fine adv → Fine (turn D c b adv)
+  turn_goes : {c : S D → Res (S D) Bool} {b : S D → Res (S D) (Flow D.Hidden)} {adv : S D → Res (S D) (Unit {0})} → Fine c → Fine b → Fine adv → Fine (round D c b adv)
   turn_goes hc hb ha = seq D R adds hc (λ t. chosen D R adds t (seq D R adds (step_goes D R adds) (λ _. seq D R adds hb (λ f. ended_goes f ha))) (answers D R adds _))
 
   again_goes : (o : Option (Flow D.Hidden)) {m : S D → Res (S D) (Flow D.Hidden)} → Fine m → Fine (again D o m)
@@ -122,9 +122,9 @@ module _ (D : Domain) (R : D.Own → D.Own → Type 0) (adds : Adds D R) where
     node_goes (Always' n _ s) x w p a =
         scoped_goes (typed_goes D R adds p (slice_get x.slots n) _ (λ t. seq D R adds (opens_goes D R adds p x.run.structs t.ty n) (λ b.
         seq D R adds (puts_goes D R adds p t.ty (At b 0) (Hidden KBool (D.held w.enable))) (λ _. part_goes s x (under D w D.always) (under_so D.always a)))))
-    node_goes (While' c _ s) x w p a = loop_goes x.run.turns (tested_goes D R adds x w c a.calls) (part_goes s x w a) (answers D R adds _)
+    node_goes (While' c _ s) x w p a = loop_goes x.run.rounds (tested_goes D R adds x w c a.calls) (part_goes s x w a) (answers D R adds _)
     node_goes (For' i c l _ s) x w p a =
-        scoped_goes (seq D R adds (header_goes i x w a.calls) (λ _. loop_goes x.run.turns (tested_or_goes c x w a.calls) (part_goes s x w a) (advances_goes l x w a.calls)))
+        scoped_goes (seq D R adds (header_goes i x w a.calls) (λ _. loop_goes x.run.rounds (tested_or_goes c x w a.calls) (part_goes s x w a) (advances_goes l x w a.calls)))
     node_goes (Return c) x w p a = back_goes c x w a.calls
     node_goes Break x w p a = answers D R adds _
     node_goes Continue x w p a = answers D R adds _

@@ -50,12 +50,12 @@ use Rattle.oc_walk.specs.declared.run.Outcome.TheVariants.{Trap, StepsSpent, Dea
 use Rattle.oc_walk.specs.declared.run.Named.{Named}
 use Rattle.oc_walk.specs.Domain.{Domain, Parts, AllOf}
 use Rattle.oc_walk.specs.Walking.{Mem, State, Halt, Ended, Odd, Res, Go, Stop, after, bind, pure, odd, choose, stilled, still, own, answered, keeps, loads, stores, makes, answer, pays, transfers, spent, step, block_of, enter, shut, leave, scoped, ahead, Known, Run, Site, deeper, lighter}
-use Rattle.oc_walk.specs.Cells.{Goal, Only, gets, fetches, sets, is_of_kind, signed_by, V, M, valued, reads, fits_leaf, cell_of, puts, picks, writes_hidden, writes, follows, addressed, moves, same_places, checks, starts_copy, copied, nought, opens, allocates, frees, typed_slot, variable, slot}
+use Rattle.oc_walk.specs.Cells.{Goal, Only, gets, fetches, sets, is_of_kind, signed_by, V, M, valued, reads, fits_leaf, cell_of, puts, picks, writes_hidden, writes, follows, addressed, moves, same_places, checks_copy, starts_copy, copies_all, nought, opens, allocates, frees, typed_slot, variable, slot}
 use Rattle.oc_walk.specs.Operations.{tests, condition, hidden_of, publicly_one, hiddenly_one, unaries, divided, publicly, hiddenly, operates, lifted, turns}
 use Rattle.oc_walk.specs.Exchange.{count_of, cost, formatted, onto, counted, word, feeds, reveals, gives, known_word, public_word, prints}
 use Rattle.oc_walk.specs.Builtins.{source_of, on_none, on_one, on_two, on_some, performs}
 use Rattle.oc_walk.specs.Expressions.{Under, under, stepping, converted, turned, copies, assigns, initializes, readied, renewed, both_or_one, decided, solely, expr, place, place_one, one, exprs, whole, tested}
-use Rattle.oc_walk.specs.Statements.{F, started, declares, declares_all, proceed, ended, turn, again, loop, header, tested_or, advances, gives_back, parted, both, node, part, stmts, other, listed}
+use Rattle.oc_walk.specs.Statements.{F, started, declares, declares_all, proceed, part_done, round, again, loop, header, tested_or, advances, gives_back, parted, both, node, part, stmts, other, listed}
 use Rattle.oc_walk.specs.Walk.{zero_value, value_back, returned, called, params, invokes, found, calls, start, nowhere}
 
 -- what an operation of each domain does, where P is of what they answer
@@ -367,7 +367,7 @@ module _ (C E : Domain) (J : Joined C E) where
     moves_same p size back (hids h) z = stops (Odd p)
     moves_same p size back nothings z = stops (Odd p)
 
-    checks_same : (p : Spot) (to from : Address) (ls : List CType) → Stays Any s t (checks C p to from ls) (checks E p to from ls)
+    checks_same : (p : Spot) (to from : Address) (ls : List CType) → Stays Any s t (checks_copy C p to from ls) (checks_copy E p to from ls)
     checks_same p to from ls =
         record { so = like (still (answered p (then (loadable t.mem.blocks from ls) (λ _. all_storable t.mem.blocks to ls)))) (λ l. refl) (answereds {P = Any} p (then_same (loadable_same e.blocks from ls) (λ _ _ _. all_storable_same e.blocks to ls))).so }
 
@@ -552,9 +552,9 @@ module _ (C E : Domain) (J : Joined C E) where
 
   starts_copy_same : {s : CSt} {t : ESt} (p : Spot) (ls : List CType) (a : Address) {v : V C} {w : V E} → Even s t → SameVal t.mem.own v w → Stays Equal s t (starts_copy C p ls a v) (starts_copy E p ls a w)
   starts_copy_same p ls a {v} {w} e h =
-      checked e (has_size ls) p (bind (addressed C p v) (λ b. bind (checks C p a b ls) (λ _. pure b))) (bind (addressed E p w) (λ b. bind (checks E p a b ls) (λ _. pure b))) (λ _. seqs_same (addressed_same e p h) (λ b _ _ f _. seqs (checks_same f p a b ls) (λ _ _ _ _ k. gives_so k.even refl)))
+      checked e (has_size ls) p (bind (addressed C p v) (λ b. bind (checks_copy C p a b ls) (λ _. pure b))) (bind (addressed E p w) (λ b. bind (checks_copy E p a b ls) (λ _. pure b))) (λ _. seqs_same (addressed_same e p h) (λ b _ _ f _. seqs (checks_same f p a b ls) (λ _ _ _ _ k. gives_so k.even refl)))
 
-  copied_same : (p : Spot) (ls : List CType) (to from : Address) {s : CSt} {t : ESt} {en : C.Enable} {en' : E.Enable} → Even s t → J.Same t.mem.own en en' → Stays Any s t (copied C p en ls to from) (copied E p en' ls to from)
+  copied_same : (p : Spot) (ls : List CType) (to from : Address) {s : CSt} {t : ESt} {en : C.Enable} {en' : E.Enable} → Even s t → J.Same t.mem.own en en' → Stays Any s t (copies_all C p en ls to from) (copies_all E p en' ls to from)
   copied_same p [] to from e n = gives_so e (tt {0})
   copied_same p (l ∷ ls) to from e n =
       seqs (seqs (reads_same p l from e) (λ _ _ _ _ h. writes_same p l to h.even (J.same_later h.later n) h.holds)) (λ _ _ _ _ k. copied_same p ls (ahead 1 to) (ahead 1 from) k.even (J.same_later k.later n))
@@ -926,15 +926,15 @@ module _ (C E : Domain) (J : Joined C E) where
   abbrev Steady : {A B : Type 0} → (E.Own → A → B → Type 0) → E.Own → (CSt → CRes A) → (ESt → ERes B) → Type 0
   Steady P o m k = (u : CSt) (v : ESt) → Even u v → J.Later o v.mem.own → Follows P v (m u) k
 
-  endeds : {f : F C} {g : F E} (adv : CSt → CRes (Unit {0})) (adv' : ESt → ERes (Unit {0})) {s : CSt} {t : ESt} → Even s t → SameFlow t.mem.own f g → Follows Any t (adv s) adv' → Follows SameEnd t (ended C adv f s) (ended E adv' g)
+  endeds : {f : F C} {g : F E} (adv : CSt → CRes (Unit {0})) (adv' : ESt → ERes (Unit {0})) {s : CSt} {t : ESt} → Even s t → SameFlow t.mem.own f g → Follows Any t (adv s) adv' → Follows SameEnd t (part_done C adv f s) (part_done E adv' g)
   endeds adv adv' e nexts h = seq h (λ _ _ _ _ k. goes k.even goes_on)
   endeds adv adv' e continues h = seq h (λ _ _ _ _ k. goes k.even goes_on)
   endeds adv adv' e breaks h = goes e (ends_so nexts)
   endeds adv adv' e (backs v) h = goes e (ends_so (backs v))
 
-  turns_round : {c : CSt → CRes Bool} {c' : ESt → ERes Bool} {b : CSt → CRes (F C)} {b' : ESt → ERes (F E)} {adv : CSt → CRes (Unit {0})} {adv' : ESt → ERes (Unit {0})} {s : CSt} {t : ESt} → Steady Equal t.mem.own c c' → Steady SameFlow t.mem.own b b' → Steady Any t.mem.own adv adv' → Even s t → Follows SameEnd t (turn C c b adv s) (turn E c' b' adv')
+  turns_round : {c : CSt → CRes Bool} {c' : ESt → ERes Bool} {b : CSt → CRes (F C)} {b' : ESt → ERes (F E)} {adv : CSt → CRes (Unit {0})} {adv' : ESt → ERes (Unit {0})} {s : CSt} {t : ESt} → Steady Equal t.mem.own c c' → Steady SameFlow t.mem.own b b' → Steady Any t.mem.own adv adv' → Even s t → Follows SameEnd t (round C c b adv s) (round E c' b' adv')
   turns_round {b = b} {b' = b'} {adv = adv} {adv' = adv'} {t = t} hc hb ha e =
-      seq_same (hc _ t e (J.later_refl t.mem.own)) (λ k _ _ f l. chooses k (bind step (λ _. bind b (ended C adv))) (pure (Some Next)) (bind step (λ _. bind b' (ended E adv'))) (pure (Some Next)) (seq (steps_same f) (λ _ _ _ _ g. seq (hb _ _ g.even (J.later_trans l g.later)) (λ _ _ _ _ h. endeds adv adv' h.even h.holds (ha _ _ h.even (J.later_trans l (J.later_trans g.later h.later)))))) (goes f (ends_so nexts)))
+      seq_same (hc _ t e (J.later_refl t.mem.own)) (λ k _ _ f l. chooses k (bind step (λ _. bind b (part_done C adv))) (pure (Some Next)) (bind step (λ _. bind b' (part_done E adv'))) (pure (Some Next)) (seq (steps_same f) (λ _ _ _ _ g. seq (hb _ _ g.even (J.later_trans l g.later)) (λ _ _ _ _ h. endeds adv adv' h.even h.holds (ha _ _ h.even (J.later_trans l (J.later_trans g.later h.later)))))) (goes f (ends_so nexts)))
 
   agains : {f : Option (F C)} {g : Option (F E)} (m : CSt → CRes (F C)) (k : ESt → ERes (F E)) {s : CSt} {t : ESt} → Even s t → SameEnd t.mem.own f g → Follows SameFlow t (m s) k → Follows SameFlow t (again C f m s) (again E g k)
   agains m k e goes_on h = h
@@ -1000,10 +1000,10 @@ module _ (C E : Domain) (J : Joined C E) where
         (typed_same p (slice_get x.slots n) (λ u. bind (opens C p x.run.structs u.ty n) (λ b. bind (still (puts C p u.ty (At b 0) (Hidden KBool (C.held w.enable)))) (λ _. part C x (under C w C.always) d))) (λ u. bind (opens E p x.run.structs u.ty n) (λ b. bind (still (puts E p u.ty (At b 0) (Hidden KBool (E.held v.enable)))) (λ _. part E x (under E v E.always) d))) e
         (λ u. seq_same (opens_same p x.run.structs u.ty n e) (λ b _ _ f l. seq (puts_same p u.ty (At b 0) f (hids (J.held (J.same_later l a.enable)))).so (λ _ _ _ z h. part_same d x h.even (under_same (J.always z.mem.own) (within h.later (within l a)))))))
     node_same (While' c _ d) x p e a =
-        loops x.run.turns (λ _ _ f l. testeds c x f (within l a)) (λ _ _ f l. part_same d x f (within l a)) (λ _ _ f l. goes f (tt {0})) e
+        loops x.run.rounds (λ _ _ f l. testeds c x f (within l a)) (λ _ _ f l. part_same d x f (within l a)) (λ _ _ f l. goes f (tt {0})) e
     node_same (For' i c k _ d) x {w = w} {v = v} p e a =
-        scopes (bind (header C x w i) (λ _. loop C x.run.turns (tested_or C x w c) (part C x w d) (advances C x w k))) (bind (header E x v i) (λ _. loop E x.run.turns (tested_or E x v c) (part E x v d) (advances E x v k))) e
-        (seq (headers i x e a) (λ _ _ _ _ h. loops x.run.turns (λ _ _ f l. testeds_or c x f (within l (within h.later a))) (λ _ _ f l. part_same d x f (within l (within h.later a))) (λ _ _ f l. advanced k x f (within l (within h.later a))) h.even))
+        scopes (bind (header C x w i) (λ _. loop C x.run.rounds (tested_or C x w c) (part C x w d) (advances C x w k))) (bind (header E x v i) (λ _. loop E x.run.rounds (tested_or E x v c) (part E x v d) (advances E x v k))) e
+        (seq (headers i x e a) (λ _ _ _ _ h. loops x.run.rounds (λ _ _ f l. testeds_or c x f (within l (within h.later a))) (λ _ _ f l. part_same d x f (within l (within h.later a))) (λ _ _ f l. advanced k x f (within l (within h.later a))) h.even))
     node_same (Return c) x p e a = given_back c x e a
     node_same Break x p e a = goes e breaks
     node_same Continue x p e a = goes e continues

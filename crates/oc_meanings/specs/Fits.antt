@@ -15,7 +15,7 @@ use Rattle.oc_meanings.specs.Clear.{known_of, Clear}
 use Rattle.oc_meanings.specs.Events.{Operand, Fix, Of, Entry, Feed, Op, One, Turn, ShiftBy, Pick, Reveal, Give, Print, events_walk}
 use Rattle.oc_meanings.specs.Values.{entry_value, values, revealed_of}
 
--- the kind of an event's integer; a print, a reveal and a result stand for none
+-- the kind of the integer that an entry's event makes; a print, a reveal and a result make none
 abbrev pub entry_kind : Entry → Option IntKind
 entry_kind (Feed party k i) = Some k
 entry_kind (Op op k a b) = Some (result_kind op k)

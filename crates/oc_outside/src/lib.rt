@@ -38,6 +38,3 @@ pub use sure_link::SureLink;
 pub use sure_sink::SureSink;
 pub use sure_vault::SureVault;
 pub use vaults::{FileAnswer, Vault, WriteAnswer};
-
-#[cfg(test)]
-mod tests;

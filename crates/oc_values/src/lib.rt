@@ -19,6 +19,3 @@ pub use integers::{BinaryOp, IntKind, OneOp, ZeroDivisor, convert, is_of_kind, w
 pub use kinds::{common, promoted, same_kind};
 pub use lists::{Boxed, Items, Name, NoMemory};
 pub use shared::Shared;
-
-#[cfg(test)]
-mod tests;

@@ -184,10 +184,10 @@ module _ (D : Domain) where
     unfolding hidden-the_row-TStmt-0 hidden-the_row-TStmt-1 hidden
     always_at n s = refl
 
-    pub while_at : (c : TExpr) (s : TStmt) → node D x w p (While c s) ≡ loop D x.run.turns (tested D x w c) (part_of x w s) (pure tt)
+    pub while_at : (c : TExpr) (s : TStmt) → node D x w p (While c s) ≡ loop D x.run.rounds (tested D x w c) (part_of x w s) (pure tt)
     unfolding hidden-the_row-TStmt-0 hidden-the_row-TStmt-1 hidden
     while_at c s = refl
 
-    pub for_at : (i : TForInit) (c a : Option TExpr) (s : TStmt) → node D x w p (For i c a s) ≡ scoped (bind (header D x w i) (λ _. loop D x.run.turns (tested_or D x w c) (part_of x w s) (advances D x w a)))
+    pub for_at : (i : TForInit) (c a : Option TExpr) (s : TStmt) → node D x w p (For i c a s) ≡ scoped (bind (header D x w i) (λ _. loop D x.run.rounds (tested_or D x w c) (part_of x w s) (advances D x w a)))
     unfolding hidden-the_row-TStmt-0 hidden-the_row-TStmt-1 hidden
     for_at i c a s = refl

@@ -13,7 +13,7 @@ use Rattle.oc_cells.specs.declared.memory.CellValue.TheVariants.{Int as CellInt,
 use Rattle.oc_cells.specs.declared.trap.TrapKind.TheVariants.{M3}
 use Rattle.oc_cells.specs.Types.{kind_of, is_hidden, is_struct}
 use Rattle.oc_cells.specs.Layout.{leaves, has_size}
-use Rattle.oc_cells.specs.Memory.{then, offset, free, loadable, all_storable}
+use Rattle.oc_cells.specs.Memory.{offset, free, copyable}
 use Rattle.oc_source.specs.declared.spot.Spot.{Spot}
 use Rattle.oc_walk.specs.declared.run.Value.{Value}
 use Rattle.oc_walk.specs.declared.run.Value.TheVariants.{Int, Pointer, Hidden, Nothing}
@@ -141,22 +141,22 @@ module _ (D : Domain) where
   same_places p negated _ _ = odd p
 
   -- the first trap of a copy of cells of these leaves: all reads, then all writes
-  abbrev pub checks : Spot → Address → Address → List CType → Act M (Unit {0})
-  checks p to from ls m = answered p (then (loadable m.blocks from ls) (λ _. all_storable m.blocks to ls)) m
+  abbrev pub checks_copy : Spot → Address → Address → List CType → Act M (Unit {0})
+  checks_copy p to from ls m = answered p (copyable m.blocks to from ls) m
 
   -- the checks of a copy to this address, and where it copies from
   abbrev pub starts_copy : Spot → List CType → Address → V → Act M Address
   starts_copy p ls a v =
-      choose (has_size ls) (bind (addressed p v) (λ b. bind (checks p a b ls) (λ _. pure b))) (odd p)
+      choose (has_size ls) (bind (addressed p v) (λ b. bind (checks_copy p a b ls) (λ _. pure b))) (odd p)
 
   -- one cell of a copy
   abbrev pub copies_cell : Spot → D.Enable → CType → Address → Address → Act M V
   copies_cell p e l to from = bind (reads p l from) (λ v. writes p e l to v)
 
   -- cells of these leaves copied in order, each read just before it is written
-  abbrev pub copied : Spot → D.Enable → List CType → Address → Address → Act M (Unit {0})
-  copied p e [] to from = pure tt
-  copied p e (l ∷ ls) to from = bind (copies_cell p e l to from) (λ _. copied p e ls (ahead 1 to) (ahead 1 from))
+  abbrev pub copies_all : Spot → D.Enable → List CType → Address → Address → Act M (Unit {0})
+  copies_all p e [] to from = pure tt
+  copies_all p e (l ∷ ls) to from = bind (copies_cell p e l to from) (λ _. copies_all p e ls (ahead 1 to) (ahead 1 from))
 
   -- a hidden zero of the kind
   abbrev pub nought : IntKind → D.Hidden

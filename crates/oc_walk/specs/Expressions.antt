@@ -23,7 +23,7 @@ use Rattle.oc_typed.specs.Static.{spot_of, type_of, working_kind}
 use Rattle.oc_walk.specs.declared.run.Value.TheVariants.{Int, Pointer}
 use Rattle.oc_walk.specs.Domain.{Domain}
 use Rattle.oc_walk.specs.Walking.{bind, pure, choose, still, ahead, Site, deeper, lighter}
-use Rattle.oc_walk.specs.Cells.{Goal, Only, gets, fetches, sets, V, A, puts, writes, follows, moves, same_places, starts_copy, copied, slot}
+use Rattle.oc_walk.specs.Cells.{Goal, Only, gets, fetches, sets, V, A, puts, writes, follows, moves, same_places, starts_copy, copies_all, slot}
 use Rattle.oc_walk.specs.Operations.{tests, unaries, operates, turns}
 use Rattle.oc_walk.specs.Builtins.{source_of, performs}
 
@@ -55,7 +55,7 @@ module _ (D : Domain) where
 
   -- a struct copied cell by cell under the enable, after all its cells were checked
   abbrev pub copies : Spot → D.Enable → List CType → Address → V D → A D (Unit {0})
-  copies r e ls a v = bind (still (starts_copy D r ls a v)) (λ b. still (copied D r e ls a b))
+  copies r e ls a v = bind (still (starts_copy D r ls a v)) (λ b. still (copies_all D r e ls a b))
 
   -- the write of an assignment, and what is then in the place: q and r are the spots of place and value
   abbrev pub assigns : Site → D.Enable → Spot → Spot → CType → Goal D.Hidden → V D → A D (V D)

@@ -48,25 +48,25 @@ module _ (D : Domain) where
   proceed (Back v) m = pure (Back v)
 
   -- how a body's end ends a loop; where it doesn't, the advance follows
-  abbrev pub ended : A D (Unit {0}) → F → A D (Option F)
-  ended adv Next = bind adv (λ _. pure None)
-  ended adv Continued = bind adv (λ _. pure None)
-  ended adv Broke = pure (Some Next)
-  ended adv (Back v) = pure (Some (Back v))
+  abbrev pub part_done : A D (Unit {0}) → F → A D (Option F)
+  part_done adv Next = bind adv (λ _. pure None)
+  part_done adv Continued = bind adv (λ _. pure None)
+  part_done adv Broke = pure (Some Next)
+  part_done adv (Back v) = pure (Some (Back v))
 
-  -- one turn of a loop, which takes a step where its condition is true, or the loop's end
-  abbrev pub turn : A D Bool → A D F → A D (Unit {0}) → A D (Option F)
-  turn c b adv = bind c (λ t. choose t (bind step (λ _. bind b (ended adv))) (pure (Some Next)))
+  -- one round of a loop, which takes a step where its condition is true, or the loop's end
+  abbrev pub round : A D Bool → A D F → A D (Unit {0}) → A D (Option F)
+  round c b adv = bind c (λ t. choose t (bind step (λ _. bind b (part_done adv))) (pure (Some Next)))
 
   -- the rest of a loop, unless it ended
   abbrev pub again : Option F → A D F → A D F
   again None m = m
   again (Some f) m = pure f
 
-  -- at most n turns of a loop; n is more than the steps of the budget, which end first
+  -- at most n rounds of a loop; n is more than the steps of the budget, which end first
   abbrev pub loop : ℕ → A D Bool → A D F → A D (Unit {0}) → A D F
   loop zero c b adv s = Stop (Ended StepsSpent) s
-  loop (suc n) c b adv s = bind (turn c b adv) (λ o. again o (loop n c b adv)) s
+  loop (suc n) c b adv s = bind (round c b adv) (λ o. again o (loop n c b adv)) s
 
   -- what the header of a `for` begins with
   abbrev pub header : Site → Under D → TForInit → A D (Unit {0})
@@ -115,9 +115,9 @@ module _ (D : Domain) where
     node x w p (Always' n _ s) =
         scoped (typed_slot D p (slice_get x.slots n) (λ t. bind (opens D p x.run.structs t.ty n) (λ b.
         bind (still (puts D p t.ty (At b 0) (Hidden KBool (D.held w.enable)))) (λ _. part x (under D w D.always) s))))
-    node x w p (While' c _ s) = loop x.run.turns (tested D x w c) (part x w s) (pure tt)
+    node x w p (While' c _ s) = loop x.run.rounds (tested D x w c) (part x w s) (pure tt)
     node x w p (For' i c a _ s) =
-        scoped (bind (header x w i) (λ _. loop x.run.turns (tested_or x w c) (part x w s) (advances x w a)))
+        scoped (bind (header x w i) (λ _. loop x.run.rounds (tested_or x w c) (part x w s) (advances x w a)))
     node x w p (Return e) = gives_back x w e
     node x w p Break = pure Broke
     node x w p Continue = pure Continued

@@ -18,9 +18,9 @@ use Rattle.oc_walk.specs.Cells.{V, S, A, puts, opens, typed_slot}
 use Rattle.oc_walk.specs.Expressions.{Under}
 use Rattle.oc_walk.specs.Statements.{F, listed}
 
--- what the nodes of a program's run share; each turn of a loop but its last takes a step, so that one turn more than the budget is enough
+-- what the nodes of a program's run share; each round of a loop but its last takes a step, so that one round more than the budget is enough
 abbrev pub run_of : List StructType → Known → ℕ → Run
-run_of structs known budget = record { known = known; structs = struct_leaves structs; turns = suc budget }
+run_of structs known budget = record { known = known; structs = struct_leaves structs; rounds = suc budget }
 
 -- where a program starts, whose call is at no node
 abbrev pub nowhere : Spot

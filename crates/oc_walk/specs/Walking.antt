@@ -155,7 +155,7 @@ block_of n (e ∷ es) = if nat_eq e.slot n then Some e.block else block_of n es
 abbrev pub enter : {H O : Type 0} → ℕ → ℕ → Act (State H O) (Unit {0})
 enter n b s = Go tt (record s { entered = record { slot = n; block = b } ∷ s.entered })
 
--- the blocks after those of the first n of these are gone
+-- the blocks, those of the newest n of these entered slots gone
 abbrev pub shut : {H : Type 0} → ℕ → List Named → List (Block H) → List (Block H)
 shut zero es blocks = blocks
 shut (suc n) [] blocks = blocks
@@ -194,8 +194,8 @@ pub record Run : Type 0 where
   pub known : Known
   -- the leaves of each struct
   pub structs : List (List CType)
-  -- more turns than any loop makes
-  pub turns : ℕ
+  -- more rounds than any loop makes
+  pub rounds : ℕ
 
 -- what surrounds a node, in every walk alike: `room` is 1,000 less the nodes that hold it through all open calls
 pub record Site : Type 0 where

@@ -37,7 +37,7 @@ pub enum Flow<H> {
     Next,
     /// Behind the loop.
     Break,
-    /// With the loop's next turn.
+    /// With the loop's next round.
     Continue,
     /// The call ends with this value.
     Back(Value<H>),

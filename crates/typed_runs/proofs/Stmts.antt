@@ -21,7 +21,7 @@ use Rattle.oc_walk.specs.Domain.{Domain, Parts, AllOf, FirstOf, SecondOf}
 use Rattle.oc_walk.specs.Walking.{Res, bind, still, block_of, Site, deeper}
 use Rattle.oc_walk.specs.Cells.{S, V, puts, opens}
 use Rattle.oc_walk.specs.Expressions.{Under, under, whole, tested, initializes}
-use Rattle.oc_walk.specs.Statements.{started, declares, declares_all, proceed, ended, turn, again, loop, header, tested_or, advances, gives_back, parted, both, node, part, stmts, other, listed}
+use Rattle.oc_walk.specs.Statements.{started, declares, declares_all, proceed, part_done, round, again, loop, header, tested_or, advances, gives_back, parted, both, node, part, stmts, other, listed}
 use Rattle.typed_runs.specs.Shapes.{Heading, Sized, Held, integer, pointer, struct}
 use Rattle.typed_runs.specs.Statements.{WholeOk, TestOk, InitOk, DeclaredOk, DeclaredsOk, HeaderOk, MaybeTestOk, MaybeOk, BackOk, NodeOk, PartOk, RowOk, OtherOk, ListOk}
 use Rattle.typed_runs.proofs.Sure.{Has, hids, none, Safe, seq, lift, answers_so, owns, puts_sure, condition_sure}
@@ -111,13 +111,13 @@ module _ (D : Domain) (hs : List Heading) (result : CType) where
   abbrev Same_after : {A : Type 0} → List Named → A → List Named → Type 0
   Same_after e a es = es ≡ e
 
-  ended_runs : {e es : List Named} {adv : S D → Res (S D) (Unit {0})} {f : Flow D.Hidden} → es ≡ e → HasFlow f → Runs D e (Same_after e) adv → Runs D es (λ o fs. HasEnd o × (fs ≡ e)) (ended D adv f)
+  ended_runs : {e es : List Named} {adv : S D → Res (S D) (Unit {0})} {f : Flow D.Hidden} → es ≡ e → HasFlow f → Runs D e (Same_after e) adv → Runs D es (λ o fs. HasEnd o × (fs ≡ e)) (part_done D adv f)
   ended_runs q nexts h = at_once D q (next D h (λ _ fs r. gives D (goes_on, r)))
   ended_runs q continues h = at_once D q (next D h (λ _ fs r. gives D (goes_on, r)))
   ended_runs q breaks h = gives D (ends_with nexts, q)
   ended_runs q (backs v) h = gives D (ends_with (backs v), q)
 
-  turn_runs : {e : List Named} {c : S D → Res (S D) Bool} {b : S D → Res (S D) (Flow D.Hidden)} {adv : S D → Res (S D) (Unit {0})} → Safe D e (λ _. Unit {0}) c → Runs D e (Part e) b → Runs D e (Same_after e) adv → Runs D e (λ o fs. HasEnd o × (fs ≡ e)) (turn D c b adv)
+  turn_runs : {e : List Named} {c : S D → Res (S D) Bool} {b : S D → Res (S D) (Flow D.Hidden)} {adv : S D → Res (S D) (Unit {0})} → Safe D e (λ _. Unit {0}) c → Runs D e (Part e) b → Runs D e (Same_after e) adv → Runs D e (λ o fs. HasEnd o × (fs ≡ e)) (round D c b adv)
   turn_runs {e} hc hb ha =
       next D (still_so D {Q = λ _ es. es ≡ e} hc (λ _ _. refl)) (λ k es q. choose_runs D k (at_once D q (next D (step_runs D) (λ _ fs r. at_once D r (next D hb (λ f gs p. ended_runs p.1 p.0 ha))))) (gives D (ends_with nexts, q)))
 
@@ -198,9 +198,9 @@ module _ (D : Domain) (hs : List Heading) (result : CType) where
         (next D (opens_runs D p x.run.structs h.0.type.ty n (subst (λ t. Sized x.run.structs t) (sym h.0.is) (bool_sized x.run.structs))) (λ b es q.
         next D (still_so D {Q = Same_after es} (subst (λ t. Safe D es (Has D t) (still (puts D p t (At b 0) (Hidden KBool (D.held w.enable))))) (sym h.0.is) (lift D (puts_sure D p (CInt KBool true) (At b 0) tt hids))) (λ _ _. refl)) (λ _ fs r. at_once D r
         (wider D (part_runs s x (under D w D.always) (n ∷ vis) (under_so D.always a) (subst (λ l. Entered (n ∷ vis) l) (sym q) (one_more_slot vis e n b i)) h.1) (λ f gs t. (t.0, grown_more (grown_one (record { slot = n; block = b }) q) (grown_same t.1))))))))) (λ _ _ q. after_same i q)
-    node_runs (While' c _ s) x w vis p {e} a i h = wider D (loop_runs x.run.turns (tested_safe x w vis c a.calls i h.0) (part_runs s x w vis a i h.1) (gives D {P = Same_after e} refl)) (λ _ _ q. after_same i q)
+    node_runs (While' c _ s) x w vis p {e} a i h = wider D (loop_runs x.run.rounds (tested_safe x w vis c a.calls i h.0) (part_runs s x w vis a i h.1) (gives D {P = Same_after e} refl)) (λ _ _ q. after_same i q)
     node_runs (For' k c l _ s) x w vis p a i h =
-        wider D (scoped_runs D {P = HasFlow} (next D (header_runs k x w vis a.calls i h.0) (λ _ es q. wider D (loop_runs x.run.turns (tested_or_safe c x w (after_header vis k) a.calls q.entered h.1) (part_runs s x w (after_header vis k) a q.entered h.3) (advances_runs l x w (after_header vis k) a.calls q.entered h.2)) (λ f fs r. (r.0, grown_more q.grown (grown_same r.1)))))) (λ _ _ q. after_same i q)
+        wider D (scoped_runs D {P = HasFlow} (next D (header_runs k x w vis a.calls i h.0) (λ _ es q. wider D (loop_runs x.run.rounds (tested_or_safe c x w (after_header vis k) a.calls q.entered h.1) (part_runs s x w (after_header vis k) a q.entered h.3) (advances_runs l x w (after_header vis k) a.calls q.entered h.2)) (λ f fs r. (r.0, grown_more q.grown (grown_same r.1)))))) (λ _ _ q. after_same i q)
     node_runs (Return c) x w vis p a i h = back_runs c x w vis a.calls i h
     node_runs Break x w vis p a i h = gives D (record { flow = breaks; grown = grown_itself; entered = λ _. i })
     node_runs Continue x w vis p a i h = gives D (record { flow = continues; grown = grown_itself; entered = λ _. i })

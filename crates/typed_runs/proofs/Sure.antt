@@ -31,7 +31,7 @@ use Rattle.oc_typed.specs.declared.typed.PrintPiece.{PrintPiece}
 use Rattle.oc_typed.specs.Static.{one_type, two_type}
 use Rattle.oc_walk.specs.Domain.{Domain}
 use Rattle.oc_walk.specs.Walking.{makes, answer, takes_answer, pays, ahead, Known, Ended, Needs, Odd, Res, Go, Stop, after, bind, pure, odd, choose, stilled, still, own, answered, keeps, loads, stores}
-use Rattle.oc_walk.specs.Cells.{checks, starts_copy, copied, nought, allocates, frees, is_of_kind, signed_by, V, M, S, valued, reads, fits_leaf, cell_of, puts, picks, writes, follows, addressed, moves, same_places}
+use Rattle.oc_walk.specs.Cells.{checks_copy, starts_copy, copies_all, nought, allocates, frees, is_of_kind, signed_by, V, M, S, valued, reads, fits_leaf, cell_of, puts, picks, writes, follows, addressed, moves, same_places}
 use Rattle.oc_walk.specs.Operations.{tests, condition, hidden_of, unaries, divided, operates, lifted, turns}
 use Rattle.oc_walk.specs.Exchange.{count_of, cost, formatted, onto, counted, word, feeds, reveals, gives, known_word, public_word, prints}
 use Rattle.typed_runs.specs.Shapes.{Operands, alike_marks, by_public, Formats, no_pieces, a_text, a_number, a_byte}
@@ -334,13 +334,13 @@ module _ (D : Domain) where
   any (Ok a) = tt
   any (Err t) = tt
 
-  pub checks_sure : (p : Spot) (to from : Address) (ls : List CType) → Sure (λ _. Unit {0}) (checks D p to from ls)
+  pub checks_sure : (p : Spot) (to from : Address) (ls : List CType) → Sure (λ _. Unit {0}) (checks_copy D p to from ls)
   checks_sure p to from ls = record { run = λ x g. answereds {P = λ _. Unit {0}} p x ((then) (loadable x.blocks from ls) (λ _. all_storable x.blocks to ls)) (any ((then) (loadable x.blocks from ls) (λ _. all_storable x.blocks to ls))) g }
 
   pub starts_copy_sure : (p : Spot) (ls : List CType) (a : Address) {u : CType} {v : V D} → has_size ls ≡ true → At_one u → Has u v → Sure (λ _. Unit {0}) (starts_copy D p ls a v)
-  starts_copy_sure p ls a {v = v} q f h = holding (has_size ls) (bind (addressed D p v) (λ b. bind (checks D p a b ls) (λ _. pure b))) (odd p) q (next (addressed_sure p f h) (λ b _. next (checks_sure p a b ls) (λ _ _. gives_so (tt {0}))))
+  starts_copy_sure p ls a {v = v} q f h = holding (has_size ls) (bind (addressed D p v) (λ b. bind (checks_copy D p a b ls) (λ _. pure b))) (odd p) q (next (addressed_sure p f h) (λ b _. next (checks_sure p a b ls) (λ _ _. gives_so (tt {0}))))
 
-  pub copied_sure : (p : Spot) (e : D.Enable) (ls : List CType) (to from : Address) → AreLeaves ls → Sure (λ _. Unit {0}) (copied D p e ls to from)
+  pub copied_sure : (p : Spot) (e : D.Enable) (ls : List CType) (to from : Address) → AreLeaves ls → Sure (λ _. Unit {0}) (copies_all D p e ls to from)
   copied_sure p e [] to from h = gives_so (tt {0})
   copied_sure p e (l ∷ ls) to from h =
       next (next (reads_sure p l from h.0) (λ v i. writes_sure p e l to h.0 i)) (λ _ _. copied_sure p e ls (ahead 1 to) (ahead 1 from) h.1)

@@ -1,11 +1,16 @@
+//! Dealt halves: their files, the faults of files, and transfers over them.
+
 ghost use Rattle.std.specs.Prelude.{◌≤◌};
 ghost use Rattle.dealt_transfer.specs.Halves.{most_transfers};
 
-use super::*;
-use oc_values::Items;
+use crate::tally::Tally;
+use dealt_transfer::{
+    CoinLabels, HalfFault, HalfRule, ReceiverHalf, SenderHalf, choice_bit, coin_label, deal,
+    first_unmatched, mask_pair, open_pair, read_receiver_half, read_sender_half,
+    write_receiver_half, write_sender_half,
+};
+use oc_values::{Items, NoMemory};
 use std::alloc::Global;
-use std::process::Abort;
-use std::test::Fail;
 
 /// The key whose bytes count from 0.
 const KEY: [u8; 32] = [
@@ -46,7 +51,7 @@ static ZEROS: [u8; 48] = [
 const BITS: [bool; 3] = [false, false, true];
 
 // Both files of a key's halves.
-fn files(alloc: Global, key: &[u8; 32], count: u32) -> Result<(Items<u8>, Items<u8>), Fail>
+fn files(alloc: Global, key: &[u8; 32], count: u32) -> Result<(Items<u8>, Items<u8>), NoMemory>
     requires { count ≤ most_transfers }
 {
     let (sender, receiver) = deal(alloc, key, count)?;
@@ -57,11 +62,18 @@ fn files(alloc: Global, key: &[u8; 32], count: u32) -> Result<(Items<u8>, Items<
 }
 
 // The bytes, with another one at a place.
-fn altered(alloc: Global, bytes: &[u8], at: usize, byte: u8) -> Result<Vec<u8>, Fail> {
+fn altered(alloc: Global, bytes: &[u8], at: usize, byte: u8) -> Result<Vec<u8>, NoMemory> {
     let mut other = Vec::from_slice(alloc, bytes)?;
     if at < other.len() {
         other[at] = byte;
     }
+    Ok(other)
+}
+
+// The bytes and a zero more.
+fn with_one_more(alloc: Global, bytes: &[u8]) -> Result<Vec<u8>, NoMemory> {
+    let mut other = Vec::from_slice(alloc, bytes)?;
+    other.push(0)?;
     Ok(other)
 }
 
@@ -81,41 +93,31 @@ fn receiver_fault_of(alloc: Global, bytes: &[u8]) -> Option<(HalfRule, u64)> {
     }
 }
 
-#[test]
-fn sizes_and_bytes(rt: HostRuntime) -> Result<(), Fail> {
-    let alloc = rt.alloc();
+fn sizes_and_bytes(alloc: Global, tally: &mut Tally) -> Result<(), HalfFault> {
     for (count, first, second) in [(0u32, 57usize, 25usize), (3, 153, 74), (32, 1081, 541)] {
         if count <= 32 {
             let (sender, receiver) = files(alloc, &KEY, count)?;
-            assert_eq!(rt; sender.len(), first);
-            assert_eq!(rt; receiver.len(), second);
+            tally.row(sender.len() == first);
+            tally.row(receiver.len() == second);
         }
     }
     let (sender, receiver) = files(alloc, &KEY, 3)?;
-    assert_eq!(rt; sender.as_slice(), SENDER.as_slice());
-    assert_eq!(rt; receiver.as_slice(), RECEIVER.as_slice());
+    tally.row(sender.as_slice() == SENDER.as_slice());
+    tally.row(receiver.as_slice() == RECEIVER.as_slice());
     let (none, _) = deal(alloc, &[0; 32], 0)?;
-    assert_eq!(rt; none.tag.as_slice(), &ZEROS[..16]);
-    assert_eq!(rt; none.coin_key.as_slice(), &ZEROS[16..]);
+    tally.row(none.tag.as_slice() == &ZEROS[..16]);
+    tally.row(none.coin_key.as_slice() == &ZEROS[16..]);
     Ok(())
 }
 
-#[test]
-fn faults_of_a_sender_half(rt: HostRuntime) -> Result<(), Fail> {
-    let alloc = rt.alloc();
+fn faults_of_a_sender_half(alloc: Global, tally: &mut Tally) -> Result<(), HalfFault> {
     let (sender, receiver) = files(alloc, &KEY, 32)?;
     let whole = sender.as_slice();
-    assert_eq!(rt; sender_fault_of(alloc, whole), None);
-    assert_eq!(rt;
-        sender_fault_of(alloc, receiver.as_slice()),
-        Some((HalfRule::H1, 0))
-    );
+    tally.row(sender_fault_of(alloc, whole).is_none());
+    tally.row(sender_fault_of(alloc, receiver.as_slice()) == Some((HalfRule::H1, 0)));
     for end in [0usize, 3, 4, 5, 21, 56, 57, 1_080] {
         if end <= whole.len() {
-            assert_eq!(rt;
-                sender_fault_of(alloc, &whole[..end]),
-                Some((HalfRule::H3, end as u64))
-            );
+            tally.row(sender_fault_of(alloc, &whole[..end]) == Some((HalfRule::H3, end as u64)));
         }
     }
     // Which byte is altered, to what, and the fault.
@@ -130,40 +132,22 @@ fn faults_of_a_sender_half(rt: HostRuntime) -> Result<(), Fail> {
     ];
     for (at, byte, rule, offset) in rows {
         let other = altered(alloc, whole, at, byte)?;
-        assert_eq!(rt;
-            sender_fault_of(alloc, other.as_slice()),
-            Some((rule, offset))
-        );
+        tally.row(sender_fault_of(alloc, other.as_slice()) == Some((rule, offset)));
     }
     // 31 transfers, and then a transfer too much.
     let fewer = altered(alloc, whole, 56, 31)?;
-    assert_eq!(rt;
-        sender_fault_of(alloc, fewer.as_slice()),
-        Some((HalfRule::H3, 1_049))
-    );
-    let mut longer = Vec::from_slice(alloc, whole)?;
-    longer.push(0)?;
-    assert_eq!(rt;
-        sender_fault_of(alloc, longer.as_slice()),
-        Some((HalfRule::H3, 1_081))
-    );
+    tally.row(sender_fault_of(alloc, fewer.as_slice()) == Some((HalfRule::H3, 1_049)));
+    let longer = with_one_more(alloc, whole)?;
+    tally.row(sender_fault_of(alloc, longer.as_slice()) == Some((HalfRule::H3, 1_081)));
     Ok(())
 }
 
-#[test]
-fn faults_of_a_receiver_half(rt: HostRuntime) -> Result<(), Fail> {
-    let alloc = rt.alloc();
+fn faults_of_a_receiver_half(alloc: Global, tally: &mut Tally) -> Result<(), HalfFault> {
     let whole = RECEIVER.as_slice();
-    assert_eq!(rt; receiver_fault_of(alloc, whole), None);
-    assert_eq!(rt;
-        receiver_fault_of(alloc, SENDER.as_slice()),
-        Some((HalfRule::H1, 0))
-    );
+    tally.row(receiver_fault_of(alloc, whole).is_none());
+    tally.row(receiver_fault_of(alloc, SENDER.as_slice()) == Some((HalfRule::H1, 0)));
     for end in [0usize, 4, 24, 25, 26, 73] {
-        assert_eq!(rt;
-            receiver_fault_of(alloc, &whole[..end]),
-            Some((HalfRule::H3, end as u64))
-        );
+        tally.row(receiver_fault_of(alloc, &whole[..end]) == Some((HalfRule::H3, end as u64)));
     }
     let rows: [(usize, u8, HalfRule, u64); 5] = [
         (4, 3, HalfRule::H2, 4),
@@ -176,58 +160,58 @@ fn faults_of_a_receiver_half(rt: HostRuntime) -> Result<(), Fail> {
     ];
     for (at, byte, rule, offset) in rows {
         let other = altered(alloc, whole, at, byte)?;
-        assert_eq!(rt;
-            receiver_fault_of(alloc, other.as_slice()),
-            Some((rule, offset))
-        );
+        tally.row(receiver_fault_of(alloc, other.as_slice()) == Some((rule, offset)));
     }
-    let mut longer = Vec::from_slice(alloc, whole)?;
-    longer.push(0)?;
-    assert_eq!(rt;
-        receiver_fault_of(alloc, longer.as_slice()),
-        Some((HalfRule::H3, 74))
-    );
+    let longer = with_one_more(alloc, whole)?;
+    tally.row(receiver_fault_of(alloc, longer.as_slice()) == Some((HalfRule::H3, 74)));
     Ok(())
 }
 
-#[test]
-fn transfers(rt: HostRuntime) -> Result<(), Fail> {
-    let alloc = rt.alloc();
-    let sender = read_sender_half(alloc, &SENDER)?;
-    let receiver = read_receiver_half(alloc, &RECEIVER)?;
-    assert_eq!(rt; receiver.bits.as_slice(), BITS.as_slice());
-    assert_eq!(rt; sender.pads.len(), 3);
-    assert_eq!(rt; receiver.pads.len(), 3);
+// Whether each transfer of both choices opens to the chosen message.
+fn open_all(tally: &mut Tally, sender: &SenderHalf, receiver: &ReceiverHalf) {
     for i in 0..3u32 {
-        for choice in [false, true] {
-            let d = choice_bit(&receiver, i, choice);
-            let (e0, e1) = mask_pair(&sender, i, d, 1_000, 2_000);
-            assert_eq!(rt;
-                open_pair(&receiver, i, choice, e0, e1),
-                if choice { 2_000 } else { 1_000 }
-            );
+        let at = i as usize;
+        if at < sender.pads.len() && at < receiver.pads.len() && at < receiver.bits.len() {
+            for (choice, message) in [(false, 1_000), (true, 2_000)] {
+                let d = choice_bit(receiver, i, choice);
+                let (e0, e1) = mask_pair(sender, i, d, 1_000, 2_000);
+                tally.row(open_pair(receiver, i, choice, e0, e1) == message);
+            }
         }
     }
+}
+
+fn transfers(alloc: Global, tally: &mut Tally) -> Result<(), HalfFault> {
+    let sender = read_sender_half(alloc, &SENDER)?;
+    let receiver = read_receiver_half(alloc, &RECEIVER)?;
+    tally.row(receiver.bits.as_slice() == BITS.as_slice());
+    tally.row(sender.pads.len() == 3 && receiver.pads.len() == 3);
+    open_all(tally, &sender, &receiver);
     // The last byte of the receiver's file is another.
-    let other = read_receiver_half(
-        alloc,
-        altered(alloc, &RECEIVER, 73, RECEIVER[73] ^ 1)?.as_slice(),
-    )?;
+    let bytes = altered(alloc, &RECEIVER, 73, RECEIVER[73] ^ 1)?;
+    let other = read_receiver_half(alloc, bytes.as_slice())?;
     if sender.tag == receiver.tag && sender.tag == other.tag && other.pads.len() == 3 {
-        assert_eq!(rt; first_unmatched(&sender, &receiver), None);
-        assert_eq!(rt; first_unmatched(&sender, &other), Some(2));
+        tally.row(first_unmatched(&sender, &receiver).is_none());
+        tally.row(first_unmatched(&sender, &other) == Some(2));
     }
-    assert!(rt; sender.tag == other.tag);
     Ok(())
 }
 
-#[test]
-fn coin_labels(rt: HostRuntime) -> Result<(), Fail> {
+fn coin_labels(tally: &mut Tally) {
     let mut labels = CoinLabels::new(&[0; 32], 0);
     for (i, field) in ZEROS.chunks(16).enumerate() {
-        assert_eq!(rt; labels.draw().to_le_bytes().as_slice(), field);
+        tally.row(labels.draw().to_le_bytes().as_slice() == field);
         let label = coin_label(&[0; 32], i as u64);
-        assert_eq!(rt; label.to_le_bytes().as_slice(), field);
+        tally.row(label.to_le_bytes().as_slice() == field);
     }
+}
+
+/// All rows of dealt halves.
+pub fn compare(alloc: Global, tally: &mut Tally) -> Result<(), HalfFault> {
+    sizes_and_bytes(alloc, tally)?;
+    faults_of_a_sender_half(alloc, tally)?;
+    faults_of_a_receiver_half(alloc, tally)?;
+    transfers(alloc, tally)?;
+    coin_labels(tally);
     Ok(())
 }
