@@ -31,13 +31,13 @@ use Rattle.type_rules.specs.Moves.{Step, Alone, Value, Test, Jump, Name, First, 
 use Rattle.type_rules.proofs.Laws.{absurd, parted, broken, not_both, fine_back, from_ok, from_err, err_back, found, faults}
 
 -- where a walk ended
-scope_of : {A : Type 0} (a b : A) (q r : Scope) → ◌≡◌ {A = Judged (A × Scope)} (Ok (a, q)) (Ok (b, r)) → q ≡ r
+pub scope_of : {A : Type 0} (a b : A) (q r : Scope) → ◌≡◌ {A = Judged (A × Scope)} (Ok (a, q)) (Ok (b, r)) → q ≡ r
 scope_of {A = A} a b q r h = ap (λ (z : Judged (A × Scope)). (from_ok (a, q) z).1) h
 
-fault_back : {A : Type 0} (x y : Refusal) → ◌≡◌ {A = Judged A} (Err x) (Err y) → x ≡ y
+pub fault_back : {A : Type 0} (x y : Refusal) → ◌≡◌ {A = Judged A} (Err x) (Err y) → x ≡ y
 fault_back x y h = ap (λ r. from_err x r) h
 
-never : {A R : Type 0} (a : A) (x : Refusal) → ◌≡◌ {A = Judged A} (Ok a) (Err x) → R
+pub never : {A R : Type 0} (a : A) (x : Refusal) → ◌≡◌ {A = Judged A} (Ok a) (Err x) → R
 never a x h = absurd (not_both a x (sym h))
 
 -- steps that answered
@@ -46,15 +46,15 @@ unfolding next
 of_value (Ok f) k s z h = (f, refl, h)
 of_value (Err y) k s z h = absurd (not_both z y h)
 
-value_then : {B : Type 0} (g : Lookup) (e : Expr) (k : TExpr → Walk B) (s : Scope) (z : B × Scope) → bind (value_in g e) k s ≡ Ok z → (f : Found) × (expr (at g s) false e.spot e.node ≡ Ok f) × (k (value_of f) s ≡ Ok z)
+pub value_then : {B : Type 0} (g : Lookup) (e : Expr) (k : TExpr → Walk B) (s : Scope) (z : B × Scope) → bind (value_in g e) k s ≡ Ok z → (f : Found) × (expr (at g s) false e.spot e.node ≡ Ok f) × (k (value_of f) s ≡ Ok z)
 unfolding typed_value
 value_then g e k s z h = of_value (expr (at g s) false e.spot e.node) k s z h
 
-alone_then : {B : Type 0} (g : Lookup) (e : Expr) (k : TExpr → Walk B) (s : Scope) (z : B × Scope) → bind (alone_in g e) k s ≡ Ok z → (f : Found) × (expr (at g s) true e.spot e.node ≡ Ok f) × (k (value_of f) s ≡ Ok z)
+pub alone_then : {B : Type 0} (g : Lookup) (e : Expr) (k : TExpr → Walk B) (s : Scope) (z : B × Scope) → bind (alone_in g e) k s ≡ Ok z → (f : Found) × (expr (at g s) true e.spot e.node ≡ Ok f) × (k (value_of f) s ≡ Ok z)
 unfolding typed_alone
 alone_then g e k s z h = of_value (expr (at g s) true e.spot e.node) k s z h
 
-ask_then : {A B : Type 0} (m : Judged A) (k : A → Walk B) (s : Scope) (z : B × Scope) → bind (ask m) k s ≡ Ok z → (a : A) × (m ≡ Ok a) × (k a s ≡ Ok z)
+pub ask_then : {A B : Type 0} (m : Judged A) (k : A → Walk B) (s : Scope) (z : B × Scope) → bind (ask m) k s ≡ Ok z → (a : A) × (m ≡ Ok a) × (k a s ≡ Ok z)
 unfolding next
 ask_then (Ok a) k s z h = (a, refl, h)
 ask_then (Err y) k s z h = absurd (not_both z y h)
@@ -64,10 +64,10 @@ unfolding next
 of_scoped (Ok r) k s z h = (r, refl, h)
 of_scoped (Err y) k s z h = absurd (not_both z y h)
 
-scoped_then : {A B : Type 0} (w : Walk A) (k : A → Walk B) (s : Scope) (z : B × Scope) → bind (scoped w) k s ≡ Ok z → (r : A × Scope) × (w (deeper s) ≡ Ok r) × (k r.0 (back s r.1) ≡ Ok z)
+pub scoped_then : {A B : Type 0} (w : Walk A) (k : A → Walk B) (s : Scope) (z : B × Scope) → bind (scoped w) k s ≡ Ok z → (r : A × Scope) × (w (deeper s) ≡ Ok r) × (k r.0 (back s r.1) ≡ Ok z)
 scoped_then w k s z h = of_scoped (w (deeper s)) k s z h
 
-walk_then : {A B : Type 0} (w : Walk A) (k : A → Walk B) (s : Scope) (z : B × Scope) → bind w k s ≡ Ok z → (r : A × Scope) × (w s ≡ Ok r) × (k r.0 r.1 ≡ Ok z)
+pub walk_then : {A B : Type 0} (w : Walk A) (k : A → Walk B) (s : Scope) (z : B × Scope) → bind w k s ≡ Ok z → (r : A × Scope) × (w s ≡ Ok r) × (k r.0 r.1 ≡ Ok z)
 walk_then w k s z h = parted (w s) (λ r. k r.0 r.1) z h
 
 -- steps that broke a rule
@@ -97,7 +97,7 @@ bad_scoped (Err y) k s x h a b = a (err_back y x h)
 scoped_bad : {A B R : Type 0} (w : Walk A) (k : A → Walk B) (s : Scope) (x : Refusal) → bind (scoped w) k s ≡ Err x → (w (deeper s) ≡ Err x → R) → ((r : A × Scope) → w (deeper s) ≡ Ok r → k r.0 (back s r.1) ≡ Err x → R) → R
 scoped_bad w k s x h a b = bad_scoped (w (deeper s)) k s x h a b
 
-walk_bad : {A B R : Type 0} (w : Walk A) (k : A → Walk B) (s : Scope) (x : Refusal) → bind w k s ≡ Err x → (w s ≡ Err x → R) → ((r : A × Scope) → w s ≡ Ok r → k r.0 r.1 ≡ Err x → R) → R
+pub walk_bad : {A B R : Type 0} (w : Walk A) (k : A → Walk B) (s : Scope) (x : Refusal) → bind w k s ≡ Err x → (w s ≡ Err x → R) → ((r : A × Scope) → w s ≡ Ok r → k r.0 r.1 ≡ Err x → R) → R
 walk_bad w k s x h a b = broken (w s) (λ r. k r.0 r.1) x h a b
 
 -- what moves can carry back over the steps before them
@@ -112,22 +112,22 @@ pub fault_carried : (g : Lookup) (x : Refusal) → Carried g (λ s vs. FirstFaul
 fault_carried g x = record { more = λ s q v vs a b. inr (q, a, b); inside = λ s q us vs a b. inr (q, a, b) }
 
 -- a walk in a scope of its own
-whole_scoped : {A : Type 0} (w : Walk A) (s : Scope) (z : A × Scope) → scoped w s ≡ Ok z → (r : A × Scope) × (w (deeper s) ≡ Ok r) × (back s r.1 ≡ z.1)
+pub whole_scoped : {A : Type 0} (w : Walk A) (s : Scope) (z : A × Scope) → scoped w s ≡ Ok z → (r : A × Scope) × (w (deeper s) ≡ Ok r) × (back s r.1 ≡ z.1)
 whole_scoped w s z h = let q = parted (w (deeper s)) (λ r. Ok (r.0, back s r.1)) z h in (q.0, q.1, scope_of _ _ _ _ q.2)
 
 bad_inside : {A : Type 0} (w : Walk A) (s : Scope) (x : Refusal) → scoped w s ≡ Err x → w (deeper s) ≡ Err x
 bad_inside w s x h = broken (w (deeper s)) (λ r. Ok (r.0, back s r.1)) x h (λ i. i) (λ r i j. never _ x j)
 
-mark_then : {B : Type 0} (y : List ℕ) (k : ℕ → Walk B) (s : Scope) (r : Judged (B × Scope)) → bind (name_mark y) k s ≡ r → k (length s.slots) (add y (Int KBool true) false s) ≡ r
+pub mark_then : {B : Type 0} (y : List ℕ) (k : ℕ → Walk B) (s : Scope) (r : Judged (B × Scope)) → bind (name_mark y) k s ≡ r → k (length s.slots) (add y (Int KBool true) false s) ≡ r
 unfolding next
 mark_then y k s r h = h
 
 -- what an expression that may be left out is
-abbrev Optional : Lookup → Scope → Option Expr → Option TExpr → Type 0
+abbrev pub Optional : Lookup → Scope → Option Expr → Option TExpr → Type 0
 Optional g s None y = y ≡ None
 Optional g s (Some e) y = (f : Found) × (expr (at g s) false e.spot e.node ≡ Ok f) × (y ≡ Some (value_of f))
 
-optional_then : {B : Type 0} (g : Lookup) (o : Option Expr) (k : Option TExpr → Walk B) (s : Scope) (z : B × Scope) → bind (optional_in g o) k s ≡ Ok z → (y : Option TExpr) × Optional g s o y × (k y s ≡ Ok z)
+pub optional_then : {B : Type 0} (g : Lookup) (o : Option Expr) (k : Option TExpr → Walk B) (s : Scope) (z : B × Scope) → bind (optional_in g o) k s ≡ Ok z → (y : Option TExpr) × Optional g s o y × (k y s ≡ Ok z)
 unfolding next
 optional_then g None k s z h = (None, refl, h)
 optional_then g (Some e) k s z h = let a = walk_then (optional_in g (Some e)) k s z h in let b = value_then g e (λ v. pure (Some v)) s a.0 a.1 in (Some (value_of b.0), (b.0, b.1, refl), subst (λ (r : Option TExpr × Scope). k r.0 r.1 ≡ Ok z) (sym (fine_back _ _ b.2)) a.2)
@@ -159,11 +159,11 @@ through_optional : (g : Lookup) (K : Scope → Moves → Type 0) → Carried g K
 through_optional g K c None s y rest a k = k
 through_optional g K c (Some e) s y rest a k = c.more s s (Value e) rest (a.0, found (at g s) false e.spot e.node a.0 a.1, refl) k
 
-not_taken : (p : Spot) (b : Bool) (u : Unit {0}) → needs p T2 (not b) ≡ Ok u → b ≡ false
+pub not_taken : (p : Spot) (b : Bool) (u : Unit {0}) → needs p T2 (not b) ≡ Ok u → b ≡ false
 not_taken p false u h = refl
 not_taken p true u h = absurd (not_both u _ h)
 
-is_it : (p : Spot) (b : Bool) (x : Refusal) → needs p T2 (not b) ≡ Err x → (b ≡ true) × (x ≡ record { rule = T2; spot = p })
+pub is_it : (p : Spot) (b : Bool) (x : Refusal) → needs p T2 (not b) ≡ Err x → (b ≡ true) × (x ≡ record { rule = T2; spot = p })
 is_it p false x h = absurd (not_both tt x (sym h))
 is_it p true x h = (refl, sym (fault_back _ _ h))
 

@@ -1,0 +1,4 @@
+pub mod StatementTyping
+pub mod ProgramTyping
+pub mod ProgramFault
+pub mod Laws
