@@ -13,24 +13,24 @@ use Rattle.oc_typing.specs.Typed.{Context}
 
 -- the facts of a scope
 pub record Facts : Type 0 where
-  -- whether it is hidden, and the slots of the variables that are outside
+  -- whether it is hidden, and which slots are those of variables outside
   pub hidden : Bool
-  pub outside : List ℕ
+  pub outside : ℕ → Bool
   -- whether a part of an `obliv if` or a `~obliv` block holds it, and whether a loop does inside of the innermost one
   pub parted : Bool
   pub loop : Bool
 
 -- those of a function's body, which is hidden where the function is marked, and has no variable outside
 abbrev pub of_body : Bool → Facts
-of_body marked = record { hidden = marked; outside = []; parted = false; loop = false }
+of_body marked = record { hidden = marked; outside = λ n. false; parted = false; loop = false }
 
 -- those of a part of an `obliv if`: hidden, and all variables that are visible at its start are outside
 abbrev pub of_part : List ℕ → Facts
-of_part vis = record { hidden = true; outside = vis; parted = true; loop = false }
+of_part vis = record { hidden = true; outside = λ n. is_among vis n; parted = true; loop = false }
 
 -- those of a `~obliv` block: not hidden, and no variable is outside
 abbrev pub of_always : Facts
-of_always = record { hidden = false; outside = []; parted = true; loop = false }
+of_always = record { hidden = false; outside = λ n. false; parted = true; loop = false }
 
 -- those of a loop's body: as around the loop
 abbrev pub in_loop : Facts → Facts
@@ -50,7 +50,7 @@ abbrev mutual
   -- whether a place is frozen in a scope: a variable that is outside of a hidden one or declared frozen, what a frozen
   -- pointer leads to, or a field of a frozen place; an element of a frozen array is reached through its decay
   pub is_frozen : Context → Facts → TPlaceNode → Bool
-  is_frozen g w (Slot n) = (w.hidden && is_among w.outside n) || declared_frozen (slice_get g.slots n)
+  is_frozen g w (Slot n) = (w.hidden && w.outside n) || declared_frozen (slice_get g.slots n)
   is_frozen g w (Deref' _ e) = leads_frozen g w e
   is_frozen g w (Index' _ l _ r) = leads_frozen g w l
   is_frozen g w (Field' _ b n) = is_frozen_one g w b
