@@ -5,3 +5,4 @@ pub mod Numbered
 pub mod Truths
 pub mod Putting
 pub mod Reading
+pub mod Affording

@@ -15,7 +15,7 @@ At-new : {W : Type 0} (ws : List W) (w : W) (n : ℕ) → length ws ≡ n → At
 At-new ws w n e = (let l = length_push ws w in omega (arith, e, l), get_or_push ws w w n e)
 
 -- what belongs together goes on with one wire more
-At-more : {W : Type 0} (R : W → ℕ → Type 0) (ws : List W) (n : ℕ) (new : W) → length ws ≡ n → ((w : W) (i : ℕ) → R w i → At ws i w)
+pub At-more : {W : Type 0} (R : W → ℕ → Type 0) (ws : List W) (n : ℕ) (new : W) → length ws ≡ n → ((w : W) (i : ℕ) → R w i → At ws i w)
     → (w : W) (i : ℕ) → R w i ⊎ ((w ≡ new) × (i ≡ n)) → At (ws ++ new ∷ []) i w
 At-more R ws n new e h w i (inl r) = At-push ws new w i (h w i r)
 At-more R ws n new e h w i (inr r) = subst (λ v. At (ws ++ new ∷ []) i v) (sym r.0) (subst (λ k. At (ws ++ new ∷ []) k new) (sym r.1) (At-new ws new n e))

@@ -43,7 +43,7 @@ module _ {S W : Type 0} (m : Calls S W) (stands : S → W → Bool → Type 0) (
 
 -- the calls of wires that are bits, where no state is
 abbrev bit_calls : Calls ⊤ Bool
-bit_calls = record { known_wire = λ s b. b; xor_wire = λ s a b. xor a b; not_wire = λ s a. not a; and_is = λ s a b w t. w ≡ (a && b) }
+bit_calls = record { known_wire = λ s b. b; xor_wire = λ s a b. xor a b; not_wire = λ s a. not a; and_is = λ s a b w t. w ≡ (a && b); has_room = λ s a b. ⊤ }
 
 bit_laws : Laws bit_calls (λ (s : ⊤) (w x : Bool). w ≡ x)
 bit_laws = record {

@@ -1,69 +1,53 @@
--- What the calls of the two plain backends give, which are seen as the number of ANDs that they made.
-use Rattle.std.specs.Prelude.{◌≡◌, ℕ, ◌+◌, ◌%◌, ◌^◌, Bool, false, ◌&&◌, not, ⊤, refl}
-use Rattle.std.proofs.Common.{arith, ap, ◌∙◌}
+-- What the calls of the backends that only count give, which are seen as the number of ANDs that they made.
+use Rattle.std.specs.Prelude.{◌≡◌, ℕ, ◌+◌, ◌%◌, ◌^◌, Bool, false, ◌&&◌, not, refl}
+use Rattle.std.proofs.Common.{arith, ap, ◌∙◌, subst, sym}
 use Rattle.gate_core.specs.Circuit.{Calls, xor}
-use Rattle.gate_core.specs.Laws.{Laws, Counts, Rises}
+use Rattle.gate_core.specs.Laws.{Laws, Counts, Rises, HasRoom}
 
 -- the ANDs that one word event needs at most
 abbrev pub most_ands : ℕ
 most_ands = 8445
 
--- wires that are bits
-abbrev pub plain_calls : Calls ℕ Bool
-plain_calls = record {
-  known_wire = λ s b. b;
-  xor_wire = λ s a b. xor a b;
-  not_wire = λ s a. not a;
-  and_is = λ s a b w t. (w ≡ (a && b)) × (t ≡ (s + 1) % 2 ^ 64);
-}
+-- what is carried of a function of two bits hangs on what is told of them alone
+abbrev pub CarriesBits : {W : Type 0} → (Bool → W) → (W → Bool) → Type 0
+CarriesBits carried told = (f : Bool → Bool → Bool) (x y : Bool) → carried (f (told (carried x)) (told (carried y))) ≡ carried (f x y)
 
--- wires without anything
-abbrev pub blank_calls : Calls ℕ ⊤
-blank_calls = record {
-  known_wire = λ s b. tt;
-  xor_wire = λ s a b. tt;
-  not_wire = λ s a. tt;
-  and_is = λ s a b w t. t ≡ (s + 1) % 2 ^ 64;
+-- a default wire carries 0
+abbrev pub CarriesDefault : {W : Type 0} → (Bool → W) → (W → Type 0) → Type 0
+CarriesDefault {W} carried is_default = (w : W) → is_default w → w ≡ carried false
+
+-- the wires carry each gate's function of the bits that its inputs tell, and an AND is counted and always has room
+abbrev pub counting_calls : {W : Type 0} → (Bool → W) → (W → Bool) → Calls ℕ W
+counting_calls carried told = record {
+  known_wire = λ s b. carried b;
+  xor_wire = λ s a b. carried (xor (told a) (told b));
+  not_wire = λ s a. carried (not (told a));
+  and_is = λ s a b w t. (w ≡ carried (told a && told b)) × (t ≡ (s + 1) % 2 ^ 64);
+  has_room = λ s a b. HasRoom (λ (s : ℕ). most_ands) s 1;
 }
 
 -- a count that is one more, modulo 2^64, rose by one
 counted : (s t : ℕ) → t ≡ (s + 1) % 2 ^ 64 → Rises s 1 t
 counted s t e = omega (arith, e)
 
--- wires that are bits keep the laws of a backend
-pub plain_laws : Laws plain_calls (λ (s : ℕ) (w x : Bool). w ≡ x)
-plain_laws = record {
+-- a wire that stands for a bit is the one that carries it, and gates keep that
+pub counting_laws : {W : Type 0} (carried : Bool → W) (told : W → Bool) → CarriesBits carried told
+    → Laws (counting_calls carried told) (λ (s : ℕ) (w : W) (x : Bool). w ≡ carried x)
+counting_laws carried told law = record {
   known_stands = λ s x. refl;
-  not_stands = λ s a x h. ap not h;
-  xor_stands = λ s a b x y h k. ap (λ v. xor v b) h ∙ ap (λ v. xor x v) k;
-  and_stands = λ s t a b w x y g h k. g.0 ∙ ap (λ v. v && b) h ∙ ap (λ v. x && v) k;
+  not_stands = λ s a x h. ap (λ w. carried (not (told w))) h ∙ law (λ u v. not u) x x;
+  xor_stands = λ s a b x y h k. ap (λ w. carried (xor (told w) (told b))) h ∙ ap (λ w. carried (xor (told (carried x)) (told w))) k ∙ law xor x y;
+  and_stands = λ s t a b w x y g h k.
+      g.0 ∙ ap (λ v. carried (told v && told b)) h ∙ ap (λ v. carried (told (carried x) && told v)) k ∙ law (λ u v. u && v) x y;
   and_keeps = λ s t a b w v x g h. h;
   and_known = λ s t a b w x g. refl;
 }
 
--- a default wire is the known 0: the default bit is false
-pub plain_default : (s : ℕ) (w : Bool) → w ≡ false → w ≡ plain_calls.known_wire s false
-plain_default s w h = h
+-- a default wire is the known 0
+pub counting_default : {W : Type 0} (carried : Bool → W) (told : W → Bool) {is_default : W → Type 0} → CarriesDefault carried is_default
+    → (s : ℕ) (w : W) → is_default w → w ≡ (counting_calls carried told).known_wire s false
+counting_default carried told h s w d = h w d
 
--- with wires that are bits an AND adds one to the count, and the room is always most_ands
-pub plain_counts : Counts plain_calls (λ (s : ℕ). s) (λ (s : ℕ). most_ands)
-plain_counts = record { and_made = λ s t a b w g. counted s t g.1; and_room = λ s t a b w g. omega arith }
-
--- wires without anything keep the laws of a backend: each stands for every bit
-pub blank_laws : Laws blank_calls (λ (s : ℕ) (w : ⊤) (x : Bool). ⊤)
-blank_laws = record {
-  known_stands = λ s x. tt;
-  not_stands = λ s a x h. tt;
-  xor_stands = λ s a b x y h k. tt;
-  and_stands = λ s t a b w x y g h k. tt;
-  and_keeps = λ s t a b w v x g h. tt;
-  and_known = λ s t a b w x g. refl;
-}
-
--- a default wire is the known 0, as every wire is
-pub blank_default : (s : ℕ) (w : ⊤) → ⊤ → w ≡ blank_calls.known_wire s false
-blank_default s w h = refl
-
--- with wires without anything an AND adds one to the count, and the room is always most_ands
-pub blank_counts : Counts blank_calls (λ (s : ℕ). s) (λ (s : ℕ). most_ands)
-blank_counts = record { and_made = λ s t a b w g. counted s t g; and_room = λ s t a b w g. omega arith }
+-- an AND adds one to the count, and the room is always most_ands
+pub counting_counts : {W : Type 0} (carried : Bool → W) (told : W → Bool) → Counts (counting_calls carried told) (λ (s : ℕ). s) (λ (s : ℕ). most_ands)
+counting_counts carried told = record { and_made = λ s t a b w g. counted s t g.1; and_room = λ s t a b w g. omega arith; room_serves = λ s a b h. h }

@@ -41,3 +41,12 @@ PlaysList {S} {W} m (gate_and i j ∷ gs) ws s vs t =
 -- a list of gates with the numbers of its answer, played on the operands' wires: it gave the wires r
 unfoldable pub PlaysGates : {S W : Type 0} → Calls S W → List Gate × List ℕ → List W → S → List W → S → Type 0
 PlaysGates {S} {W} m f ws s r t = (vs : List W) × PlaysList m f.0 ws s vs t × All2 (λ w i. At vs i w) r f.1
+
+-- wherever the play of a list of gates on the wires ws, from the state s, comes to an AND, there is room for it
+abbrev pub AffordsList : {S W : Type 0} → Calls S W → List Gate → List W → S → Type 0
+AffordsList m [] ws s = Unit {0}
+AffordsList m (gate_known b ∷ gs) ws s = AffordsList m gs (ws ++ m.known_wire s b ∷ []) s
+AffordsList {S} {W} m (gate_not i ∷ gs) ws s = (a : W) → At ws i a → AffordsList m gs (ws ++ m.not_wire s a ∷ []) s
+AffordsList {S} {W} m (gate_xor i j ∷ gs) ws s = (a b : W) → At ws i a → At ws j b → AffordsList m gs (ws ++ m.xor_wire s a b ∷ []) s
+AffordsList {S} {W} m (gate_and i j ∷ gs) ws s =
+    (a b : W) → At ws i a → At ws j b → m.has_room s a b × ((w : W) (u : S) → m.and_is s a b w u → AffordsList m gs (ws ++ w ∷ []) u)

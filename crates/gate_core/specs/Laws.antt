@@ -2,7 +2,7 @@
 use Rattle.std.specs.Prelude.{◌≡◌, ℕ, ◌+◌, ◌%◌, ◌^◌, ◌≤◌, Bool, ◌&&◌, not}
 use Rattle.gate_core.specs.Circuit.{Calls, xor}
 
--- in a state there is room for n ANDs
+-- in a state there is room for n ANDs, whatever their inputs are
 abbrev pub HasRoom : {S : Type 0} → (S → ℕ) → S → ℕ → Type 0
 HasRoom room s n = n ≤ room s
 
@@ -20,7 +20,8 @@ pub record Laws {S W : Type 0} (m : Calls S W) (stands : S → W → Bool → Ty
   pub and_keeps : (s t : S) (a b w v : W) (x : Bool) → m.and_is s a b w t → stands s v x → stands t v x
   pub and_known : (s t : S) (a b w : W) (x : Bool) → m.and_is s a b w t → m.known_wire t x ≡ m.known_wire s x
 
--- an AND adds one to the count, and lowers the room by at most one
+-- an AND adds one to the count, and lowers the room by at most one; a room of one has room for each
 pub record Counts {S W : Type 0} (m : Calls S W) (made room : S → ℕ) : Type 0 where
   pub and_made : (s t : S) (a b w : W) → m.and_is s a b w t → Rises (made s) 1 (made t)
   pub and_room : (s t : S) (a b w : W) → m.and_is s a b w t → room s ≤ room t + 1
+  pub room_serves : (s : S) (a b : W) → HasRoom room s 1 → m.has_room s a b

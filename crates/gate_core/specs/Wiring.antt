@@ -1,8 +1,9 @@
 -- A list of gates read over any kind of wire, and lists put behind one another.
 use Rattle.std.specs.Prelude.{◌≡◌, ℕ, suc, ◌+◌, ◌-◌, Bool, false, not, ◌&&◌, ⊤, List, [], ◌∷◌, ◌++◌, get_or, length, map}
 use Rattle.gate_core.specs.Circuit.{Calls, xor}
+use Rattle.gate_core.specs.Laws.{HasRoom}
 use Rattle.gate_core.specs.Relations.{All2}
-use Rattle.gate_core.specs.GateList.{Gate, gate_known, gate_not, gate_xor, gate_and, At, PlaysList, PlaysGates}
+use Rattle.gate_core.specs.GateList.{Gate, gate_known, gate_not, gate_xor, gate_and, At, PlaysList, PlaysGates, AffordsList}
 
 -- a kind of wire, and what is kept from gate to gate: each gate gives a wire and what is kept after it
 pub record Wiring (W K : Type 0) : Type 0 where
@@ -99,3 +100,13 @@ ReadsOnward {W} {K} N = (gs hs : List Gate) (ws : List W) (k : K)
 abbrev pub ReadsPutIn : {W K : Type 0} → Wiring W K → Type 0
 ReadsPutIn {W} {K} N = (f : List Gate × List ℕ) (xs : List ℕ) (us ws : List W) (k : K)
     → All2 (λ w i. At us i w) ws xs → read N (put_in xs (length us) f) us k ≡ read N f ws k
+
+-- a room of as many ANDs as a list of gates has is room for the list
+abbrev pub RoomSuffices : {S W : Type 0} → Calls S W → (S → ℕ) → Type 0
+RoomSuffices {S} {W} m room = (gs : List Gate) (ws : List W) (s : S) → HasRoom room s (ands_in gs) → AffordsList m gs ws s
+
+-- room for one list of gates and then another is room for the first, and for the other from where it stands
+abbrev pub AffordsOnward : {S W : Type 0} → Calls S W → Type 0
+AffordsOnward {S} {W} m = (gs hs : List Gate) (ws : List W) (s : S)
+    → (AffordsList m (gs ++ hs) ws s → AffordsList m gs ws s × ((us : List W) (u : S) → PlaysList m gs ws s us u → AffordsList m hs us u))
+    × (AffordsList m gs ws s → ((us : List W) (u : S) → PlaysList m gs ws s us u → AffordsList m hs us u) → AffordsList m (gs ++ hs) ws s)

@@ -2,7 +2,7 @@
 
 ghost use Rattle.std.specs.Prelude.{◌≡◌, ℕ, Bool, false};
 ghost use Rattle.gate_core.specs.Circuit.{Calls};
-ghost use Rattle.gate_core.specs.Laws.{Laws, Counts, HasRoom};
+ghost use Rattle.gate_core.specs.Laws.{Laws, Counts};
 
 /// The ANDs that one operation on words makes at most.
 pub const MOST_ANDS: u32 = 8_445;
@@ -16,7 +16,7 @@ pub trait Gates {
     // The wire stands for this bit.
     ghost stands: { Self → Self.Wire → Bool → Type 0 };
 
-    // What its own calls give.
+    // What its own calls give, and when there is room for an AND of two wires.
     ghost calls: { Calls Self Self.Wire };
 
     // How many ANDs were made, of which clauses speak modulo 2^64.
@@ -37,9 +37,9 @@ pub trait Gates {
     fn not(&self, a: Self::Wire) -> Self::Wire
         ensures { result ≡ calls.not_wire self.now a };
 
-    /// Makes an AND gate.
+    /// Makes an AND gate. Where `room` tells at least 1, there is room for it.
     fn and(&mut self, a: Self::Wire, b: Self::Wire) -> Self::Wire
-        requires { HasRoom room self.old 1 }
+        requires { calls.has_room self.old a b }
         ensures { calls.and_is self.old a b result self.new };
 
     /// How many ANDs can be made now.
@@ -52,6 +52,6 @@ pub trait Gates {
     // The default wire is the known 0.
     ghost default_known: { (s : Self) (w : Self.Wire) → Self.Wire.is_default w → w ≡ calls.known_wire s false };
 
-    // An AND is counted, and takes room for one at most.
+    // An AND is counted, and takes room for one at most; a room of one has room for it.
     ghost counts: { Counts calls made room };
 }

@@ -1,6 +1,6 @@
 //! Laws of gates that were played, each the contract of a function that does nothing.
 
-ghost use Rattle.gate_core.specs.Wiring.{Wiring, StandsForTruth, PlaysOnward, PlaysPutIn, ReadsOnward, ReadsPutIn};
+ghost use Rattle.gate_core.specs.Wiring.{Wiring, StandsForTruth, PlaysOnward, PlaysPutIn, ReadsOnward, ReadsPutIn, RoomSuffices, AffordsOnward};
 
 use crate::Gates;
 
@@ -31,4 +31,14 @@ pub fn readings_join<W, K>()
 /// operands' wires alone.
 pub fn operands_are_read<W, K>()
     ensures { (wiring : Wiring W K) → ReadsPutIn wiring }
+{}
+
+/// A room of as many ANDs as a list of gates has is room for the list.
+pub fn room_suffices<G: Gates>()
+    ensures { RoomSuffices G.calls G.room }
+{}
+
+/// Room for one list of gates and then another is room for the first, and for the other from where it stands.
+pub fn room_goes_on<G: Gates>()
+    ensures { AffordsOnward G.calls }
 {}

@@ -1,8 +1,8 @@
 -- What a call owes, once its circuit was played: the list of gates, the counts, the bits.
-use Rattle.std.proofs.Common.{◌≡◌, ℕ, zero, suc, ◌+◌, ◌<◌, ◌≤◌, ℤ, Bool, false, IsTrue, List, [], ◌∷◌, ◌++◌, length, take, drop, ap, ◌∙◌, sym, arith, subst}
+use Rattle.std.proofs.Common.{◌≡◌, ℕ, zero, suc, ◌+◌, ◌<◌, ◌≤◌, ℤ, Bool, false, IsTrue, List, [], ◌∷◌, ◌++◌, length, take, drop, ap, ◌∙◌, sym, arith, subst, inl, inr}
 use Rattle.std.proofs.lemmas.List.{length-append, take_at, drop_at}
 use Rattle.std.proofs.lemmas.Bool.Decides.{nat_tests}
-use Rattle.gate_core.specs.Circuit.{Circuit, Calls, Plays}
+use Rattle.gate_core.specs.Circuit.{Circuit, Calls, Plays, Affords}
 use Rattle.gate_core.proofs.Relating.{truth, Same, Costs}
 use Rattle.gate_core.specs.Circuit.Circuit.{give, known, flip, join, meet}
 use Rattle.gate_core.specs.Relations.{All2}
@@ -11,9 +11,10 @@ use Rattle.gate_core.specs.GateList.{PlaysGates, numbers}
 use Rattle.gate_core.proofs.Playing.{Counts-all, Plays-stands}
 use Rattle.gate_core.proofs.Pairs.{All2-up, All2-append, All2-length}
 use Rattle.gate_core.proofs.Numbered.{Plays-gates}
+use Rattle.gate_core.proofs.Affording.{Affords-count, Affords-gates}
 use Rattle.word_circuits.specs.Widths.{is_width}
 use Rattle.word_circuits.specs.Integers.{number, Means}
-use Rattle.word_circuits.specs.Fragments.{Operation, inputs, outputs, circuit, fragment, ands_of, word_op, Performs}
+use Rattle.word_circuits.specs.Fragments.{Operation, inputs, outputs, circuit, fragment, ands_of, word_op, HasRoomFor, Performs}
 
 pub width_pos : (n : ℕ) → IsTrue (is_width n) → 0 < n
 width_pos zero h = absurd (cc)
@@ -44,6 +45,14 @@ Plays-keeps m stands law (flip x c) s t r p v b h = Plays-keeps m stands law (c 
 Plays-keeps m stands law (join x y c) s t r p v b h = Plays-keeps m stands law (c (m.xor_wire s x y)) s t r p v b h
 Plays-keeps m stands law (meet x y c) s t r p v b h = Plays-keeps m stands law (c p.0) p.1 t r p.3 v b (law.and_keeps s p.1 x y p.0 v b p.2 h)
 
+pub length-two : {W : Type 0} (x y : List W) (w : ℕ) → length x ≡ w → length y ≡ w → length (x ++ y) ≡ w + w
+length-two x y w ex ey = let l = length-append x y in omega (arith, l, ex, ey)
+
+-- the first of the operands has the number 0
+first_number : {W : Type 0} (R : W → ℕ → Type 0) (x : W) (xs : List W) (n : ℕ) → 0 < n → All2 R (x ∷ xs) (numbers 0 n) → R x 0
+first_number R x xs zero lt h = absurd (omega (arith, lt))
+first_number R x xs (suc n) lt h = h.0
+
 list_played : {S W : Type 0} (m : Calls S W) (op : Operation) (w : ℕ) (xs : List W) (s t : S) (r : List W)
     → 0 < inputs op w → length xs ≡ inputs op w → Uniform op w → ((d : W) → Plays m (circuit op w d xs) s r t)
     → PlaysGates m (fragment op w) xs s r t
@@ -51,11 +60,41 @@ unfolding fragment
 list_played m op w [] s t r pos len same p = absurd (omega (arith, len, pos))
 list_played {S} {W} m op w (x ∷ xs) s t r pos len same p =
     Plays-gates m (circuit op w x (x ∷ xs)) (circuit op w 0 (numbers 0 (inputs op w))) (x ∷ xs) (inputs op w) s t r (sym len)
-    (λ R h. same W ℕ R x 0 (x ∷ xs) (numbers 0 (inputs op w)) (first R x xs (inputs op w) pos h) h) (p x)
-  where
-    first : (R : W → ℕ → Type 0) (x : W) (xs : List W) (n : ℕ) → 0 < n → All2 R (x ∷ xs) (numbers 0 n) → R x 0
-    first R x xs zero lt h = absurd (omega (arith, lt))
-    first R x xs (suc n) lt h = h.0
+    (λ R h. same W ℕ R x 0 (x ∷ xs) (numbers 0 (inputs op w)) (first_number R x xs (inputs op w) pos h) h) (p x)
+
+-- room for an operation is room for its circuit
+pub afforded : {S W : Type 0} (m : Calls S W) (made room : S → ℕ) → Counts m made room
+    → (op : Operation) (w : ℕ) (xs : List W) (s : S)
+    → 0 < inputs op w → length xs ≡ inputs op w → Uniform op w → Counted op w → HasRoomFor m room s op w xs → (d : W) × Affords m (circuit op w d xs) s
+unfolding fragment
+afforded m made room counts op w [] s pos len same cost h = absurd (omega (arith, len, pos))
+afforded {S} {W} m made room counts op w (x ∷ xs) s pos len same cost h = (
+  x,
+  elim h as (λ _. Affords m (circuit op w x (x ∷ xs)) s) [
+    | inl n ↦ Affords-count m made room counts _ (ands_of (word_op op) w) (circuit op w x (x ∷ xs)) s (cost W x (x ∷ xs) len) n
+    | inr p ↦ Affords-gates m (circuit op w x (x ∷ xs)) (circuit op w 0 (numbers 0 (inputs op w))) (x ∷ xs) (inputs op w) s (sym len)
+        (λ R h. same W ℕ R x 0 (x ∷ xs) (numbers 0 (inputs op w)) (first_number R x xs (inputs op w) pos h) h) p
+  ],
+)
+
+-- and so it is where the operand's wires are those of a word
+pub afforded_one : {S W : Type 0} (m : Calls S W) (made room : S → ℕ) → Counts m made room
+    → (op : Operation) (w : ℕ) (F : W → List W → Circuit W (List W)) (u x : List W) (s : S)
+    → ((d : W) → circuit op w d x ≡ F d x) → u ≡ x → 0 < inputs op w → length x ≡ inputs op w → Uniform op w → Counted op w
+    → HasRoomFor m room s op w x → (d : W) × Affords m (F d u) s
+afforded_one m made room counts op w F u x s is ex pos len same cost h =
+    let a = afforded m made room counts op w x s pos len same cost h in
+    (a.0, subst (λ l. Affords m (F a.0 l) s) (sym ex) (subst (λ c. Affords m c s) (is a.0) a.1))
+
+-- and where they are those of two words of one width
+pub afforded_two : {S W : Type 0} (m : Calls S W) (made room : S → ℕ) → Counts m made room
+    → (op : Operation) (w : ℕ) (F : W → List W → List W → Circuit W (List W)) (u x v y : List W) (s : S)
+    → ((d : W) → circuit op w d (x ++ y) ≡ F d x y) → u ≡ x → v ≡ y → inputs op w ≡ w + w → 0 < w → length x ≡ w → length y ≡ w → Uniform op w → Counted op w
+    → HasRoomFor m room s op w (x ++ y) → (d : W) × Affords m (F d u v) s
+afforded_two m made room counts op w F u x v y s is ex ey two some lx ly same cost h =
+    let l = length-two x y w lx ly in
+    let a = afforded m made room counts op w (x ++ y) s (omega (arith, two, some)) (l ∙ sym two) same cost h in
+    (a.0, subst (λ l. Affords m (F a.0 l v) s) (sym ex) (subst (λ l. Affords m (F a.0 x l) s) (sym ey) (subst (λ c. Affords m c s) (is a.0) a.1)))
 
 pub owed : {S W : Type 0} (m : Calls S W) (stands : S → W → Bool → Type 0) (made room : S → ℕ) → Laws m stands → Counts m made room
     → (op : Operation) (w : ℕ) (xs : List W) (s t : S) (r : List W)
@@ -112,9 +151,6 @@ means_two m stands law op w x y s t r lx ly same p signed kind out f is a b hx h
 -- two words one after the other, taken apart again
 pub apart : {W B : Type 0} (F : List W → List W → B) (x y : List W) (w : ℕ) → length x ≡ w → F (take w (x ++ y)) (drop w (x ++ y)) ≡ F x y
 apart F x y w e = ap (λ u. F u (drop w (x ++ y))) (take_at x y w e) ∙ ap (λ v. F x v) (drop_at x y w e)
-
-pub length-two : {W : Type 0} (x y : List W) (w : ℕ) → length x ≡ w → length y ≡ w → length (x ++ y) ≡ w + w
-length-two x y w ex ey = let l = length-append x y in omega (arith, l, ex, ey)
 
 -- a play of wires that are those of a word, and gave those of another
 pub carried_one : {S W : Type 0} (m : Calls S W) (F : List W → Circuit W (List W)) (u x r0 r : List W) (s t : S)

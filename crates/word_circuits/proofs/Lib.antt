@@ -20,3 +20,4 @@ pub mod DividingPlays
 pub mod Deriving
 pub mod Operating
 pub mod Knowing
+pub mod Affording

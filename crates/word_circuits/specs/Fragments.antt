@@ -1,9 +1,9 @@
 -- The list of gates of each operation, how many of them are ANDs, and what a call owes that makes them.
-use Rattle.std.specs.Prelude.{ℕ, ◌+◌, ◌-◌, ◌*◌, ◌≤◌, Bool, true, false, List, get_or, take, drop}
+use Rattle.std.specs.Prelude.{ℕ, ◌+◌, ◌-◌, ◌*◌, ◌≤◌, ◌⊎◌, Bool, true, false, List, get_or, take, drop}
 use Rattle.gate_core.specs.Circuit.{Circuit, Calls, then}
 use Rattle.gate_core.specs.Circuit.Circuit.{give}
 use Rattle.gate_core.specs.Laws.{HasRoom, Rises}
-use Rattle.gate_core.specs.GateList.{Gate, gates_of, numbers, PlaysGates}
+use Rattle.gate_core.specs.GateList.{Gate, gates_of, numbers, PlaysGates, AffordsList}
 use Rattle.word_circuits.specs.Widths.{log2}
 use Rattle.word_circuits.specs.Chains.{add_circuit, subtract_circuit, negate_circuit, less_circuit, equal_circuit, to_bool_circuit, other_word}
 use Rattle.word_circuits.specs.Choices.{meet_circuit, either_circuit, differ_circuit, flip_circuit, select_circuit, shift_known_circuit, shift_word_circuit, resize_circuit}
@@ -143,9 +143,10 @@ word_op (op_shift_word left signed) = ShiftWord
 word_op (op_resize v signed) = Resize
 word_op op_copy = Resize
 
--- a state has room for an operation on words of w wires
-abbrev pub Affords : {S : Type 0} → (S → ℕ) → S → Operation → ℕ → Type 0
-Affords room s op w = HasRoom room s (ands_of (word_op op) w)
+-- a state has room for an operation on words of w wires, where the operands' wires are xs: for as many ANDs as the table says, or else
+-- for each AND that its gates come to
+abbrev pub HasRoomFor : {S W : Type 0} → Calls S W → (S → ℕ) → S → Operation → ℕ → List W → Type 0
+HasRoomFor m room s op w xs = HasRoom room s (ands_of (word_op op) w) ⊎ AffordsList m (fragment op w).0 xs s
 
 -- an operation on words of w wires was performed on the operands' wires xs from the state s, and gave r and the state t
 pub record Performs {S W : Type 0} (m : Calls S W) (stands : S → W → Bool → Type 0) (tally space : S → ℕ)

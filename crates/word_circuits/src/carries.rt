@@ -1,8 +1,7 @@
 //! Loops over the places of words with a carry.
 
 ghost use Rattle.std.specs.Prelude.{◌≡◌, ◌<◌, ◌≤◌, ◌-◌, length};
-ghost use Rattle.gate_core.specs.Circuit.{Plays};
-ghost use Rattle.gate_core.specs.Laws.{HasRoom};
+ghost use Rattle.gate_core.specs.Circuit.{Plays, Affords};
 ghost use Rattle.word_circuits.specs.Chains.{chain, flips, sums, add_circuit, subtract_circuit};
 
 use crate::wires::{add_bit, wire};
@@ -20,7 +19,7 @@ pub(crate) fn chain<G: Gates>(
     requires x { count ≤ length x.now }
     requires y { count ≤ length y.now }
     requires fits { count ≤ 64 }
-    requires room { HasRoom G.room gates.old count }
+    requires room { (d : G.Wire) × Affords G.calls (chain x.now y.now d carry count) gates.old }
     ensures plays { (d : G.Wire) → Plays G.calls (chain x.now y.now d carry count) gates.old (record { sums = result.0.items; carry = result.1 }) gates.new }
     ensures len { length result.0.items ≡ count }
 {
@@ -58,7 +57,7 @@ pub(crate) fn sum_wires<G: Gates>(
     requires some { 0 < length x.now }
     requires same { length x.now ≡ length y.now }
     requires fits { length x.now ≤ 64 }
-    requires room { HasRoom G.room gates.old (length x.now - 1) }
+    requires room { Affords G.calls (sums (length x.now) x.now y.now carry) gates.old }
     ensures plays { Plays G.calls (sums (length x.now) x.now y.now carry) gates.old result.items gates.new }
     ensures len { length result.items ≡ length x.now }
 {
@@ -79,7 +78,7 @@ pub(crate) fn add_wires<G: Gates>(
     requires some { 0 < length x.now }
     requires same { length x.now ≡ length y.now }
     requires fits { length x.now ≤ 64 }
-    requires room { HasRoom G.room gates.old (length x.now - 1) }
+    requires room { Affords G.calls (add_circuit (length x.now) x.now y.now) gates.old }
     ensures plays { Plays G.calls (add_circuit (length x.now) x.now y.now) gates.old result.items gates.new }
     ensures len { length result.items ≡ length x.now }
 {
@@ -96,7 +95,7 @@ pub(crate) fn subtract_wires<G: Gates>(
     requires some { 0 < length x.now }
     requires same { length x.now ≡ length y.now }
     requires fits { length x.now ≤ 64 }
-    requires room { HasRoom G.room gates.old (length x.now - 1) }
+    requires room { Affords G.calls (subtract_circuit (length x.now) x.now y.now) gates.old }
     ensures plays { Plays G.calls (subtract_circuit (length x.now) x.now y.now) gates.old result.items gates.new }
     ensures len { length result.items ≡ length x.now }
 {

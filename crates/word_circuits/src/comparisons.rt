@@ -1,14 +1,13 @@
 //! Comparisons, and the conversion to a truth value.
 
 ghost use Rattle.std.specs.Prelude.{◌≡◌, ◌<◌, ◌≤◌, ◌+◌, ◌-◌, ◌++◌, ◌∷◌, [], length, ℤ, Bool, false};
-ghost use Rattle.gate_core.specs.Circuit.{Plays};
-ghost use Rattle.gate_core.specs.Laws.{HasRoom};
+ghost use Rattle.gate_core.specs.Circuit.{Plays, Affords};
 ghost use Rattle.word_circuits.specs.Chains.{biased, less_circuit, equal_circuit, to_bool_circuit};
 ghost use Rattle.oc_values.specs.declared.integers.BinaryOp.TheVariants.{Less, Equal};
 ghost use Rattle.oc_values.specs.declared.integers.IntKind.TheVariants.{Bool as KBool};
 ghost use Rattle.oc_values.specs.Integers.{operate_bits, convert};
 ghost use Rattle.word_circuits.specs.Integers.{Means};
-ghost use Rattle.word_circuits.specs.Fragments.{Performs, Affords};
+ghost use Rattle.word_circuits.specs.Fragments.{Performs, HasRoomFor};
 ghost use Rattle.word_circuits.specs.Fragments.Operation.{op_less, op_equal, op_to_bool};
 
 use crate::Word;
@@ -25,7 +24,7 @@ pub fn less<G: Gates>(
     signed: bool,
 ) -> Word<G::Wire>
     requires same { length x.now ≡ length y.now }
-    requires room { Affords G.room gates.old (op_less signed) (length x.now) }
+    requires room { HasRoomFor G.calls G.room gates.old (op_less signed) (length x.now) (x.now ++ y.now) }
     ensures performs { Performs G.calls G.stands G.made G.room (op_less signed) (length x.now) (x.now ++ y.now) gates.old result gates.new }
     ensures means { (a b : ℤ) → Means (G.stands gates.old) signed x.now a → Means (G.stands gates.old) signed y.now b → Means (G.stands gates.new) false result (operate_bits Less signed (length x.now) a b) }
     ensures width { length result ≡ 1 }
@@ -36,7 +35,7 @@ pub fn less<G: Gates>(
 /// Whether two words are equal, as a word of one wire.
 pub fn equal<G: Gates>(gates: &mut G, x: &Word<G::Wire>, y: &Word<G::Wire>) -> Word<G::Wire>
     requires same { length x.now ≡ length y.now }
-    requires room { Affords G.room gates.old op_equal (length x.now) }
+    requires room { HasRoomFor G.calls G.room gates.old op_equal (length x.now) (x.now ++ y.now) }
     ensures performs { Performs G.calls G.stands G.made G.room op_equal (length x.now) (x.now ++ y.now) gates.old result gates.new }
     ensures means { (signed : Bool) (a b : ℤ) → Means (G.stands gates.old) signed x.now a → Means (G.stands gates.old) signed y.now b → Means (G.stands gates.new) false result (operate_bits Equal signed (length x.now) a b) }
     ensures width { length result ≡ 1 }
@@ -46,7 +45,7 @@ pub fn equal<G: Gates>(gates: &mut G, x: &Word<G::Wire>, y: &Word<G::Wire>) -> W
 
 /// Whether a word isn't 0, as a word of one wire.
 pub fn to_bool<G: Gates>(gates: &mut G, x: &Word<G::Wire>) -> Word<G::Wire>
-    requires { Affords G.room gates.old op_to_bool (length x.now) }
+    requires { HasRoomFor G.calls G.room gates.old op_to_bool (length x.now) x.now }
     ensures performs { Performs G.calls G.stands G.made G.room op_to_bool (length x.now) x.now gates.old result gates.new }
     ensures means { (signed : Bool) (a : ℤ) → Means (G.stands gates.old) signed x.now a → Means (G.stands gates.new) false result (convert a KBool) }
     ensures width { length result ≡ 1 }
@@ -64,7 +63,7 @@ pub(crate) fn less_wires<G: Gates>(
     requires some { 0 < length x.now }
     requires same { length x.now ≡ length y.now }
     requires fits { length x.now ≤ 64 }
-    requires room { HasRoom G.room gates.old (length x.now) }
+    requires room { Affords G.calls (less_circuit signed (length x.now) x.now y.now) gates.old }
     ensures { Plays G.calls (less_circuit signed (length x.now) x.now y.now) gates.old result gates.new }
 {
     let width = x.len();
@@ -97,7 +96,7 @@ fn biased<G: Gates>(gates: &G, x: &[G::Wire], signed: bool) -> ArrayVec<G::Wire,
 pub(crate) fn all_alike<G: Gates>(gates: &mut G, x: &[G::Wire], y: &[G::Wire]) -> G::Wire
     requires some { 0 < length x.now }
     requires same { length x.now ≡ length y.now }
-    requires room { HasRoom G.room gates.old (length x.now - 1) }
+    requires room { (d : G.Wire) × Affords G.calls (equal_circuit (length x.now) x.now y.now d) gates.old }
     ensures { (d : G.Wire) → Plays G.calls (equal_circuit (length x.now) x.now y.now d) gates.old (result ∷ []) gates.new }
 {
     let mut all = alike(gates, wire(x, 0), wire(y, 0));
@@ -118,7 +117,7 @@ fn alike<G: Gates>(gates: &G, x: G::Wire, y: G::Wire) -> G::Wire
 // Whether any place of a word is true.
 pub(crate) fn any_true<G: Gates>(gates: &mut G, x: &[G::Wire]) -> G::Wire
     requires some { 0 < length x.now }
-    requires room { HasRoom G.room gates.old (length x.now - 1) }
+    requires room { (d : G.Wire) × Affords G.calls (to_bool_circuit (length x.now) x.now d) gates.old }
     ensures { (d : G.Wire) → Plays G.calls (to_bool_circuit (length x.now) x.now d) gates.old (result ∷ []) gates.new }
 {
     let mut none = gates.not(wire(x, 0));

@@ -6,7 +6,7 @@ ghost use Rattle.oc_values.specs.Integers.{operate_bits, number_of, is_zero};
 ghost use Rattle.gate_core.specs.Circuit.{Plays};
 ghost use Rattle.word_circuits.specs.Chains.{other_word};
 ghost use Rattle.word_circuits.specs.Integers.{Means};
-ghost use Rattle.word_circuits.specs.Fragments.{Performs, Affords};
+ghost use Rattle.word_circuits.specs.Fragments.{Performs, HasRoomFor};
 ghost use Rattle.word_circuits.specs.Fragments.Operation.{op_less_equal, op_greater, op_greater_equal, op_unequal, op_is_zero};
 
 use crate::Word;
@@ -23,7 +23,7 @@ pub fn greater<G: Gates>(
     signed: bool,
 ) -> Word<G::Wire>
     requires same { length x.now ≡ length y.now }
-    requires room { Affords G.room gates.old (op_greater signed) (length x.now) }
+    requires room { HasRoomFor G.calls G.room gates.old (op_greater signed) (length x.now) (x.now ++ y.now) }
     ensures performs { Performs G.calls G.stands G.made G.room (op_greater signed) (length x.now) (x.now ++ y.now) gates.old result gates.new }
     ensures means { (a b : ℤ) → Means (G.stands gates.old) signed x.now a → Means (G.stands gates.old) signed y.now b → Means (G.stands gates.new) false result (operate_bits Greater signed (length x.now) a b) }
     ensures width { length result ≡ 1 }
@@ -40,7 +40,7 @@ pub fn less_equal<G: Gates>(
     signed: bool,
 ) -> Word<G::Wire>
     requires same { length x.now ≡ length y.now }
-    requires room { Affords G.room gates.old (op_less_equal signed) (length x.now) }
+    requires room { HasRoomFor G.calls G.room gates.old (op_less_equal signed) (length x.now) (x.now ++ y.now) }
     ensures performs { Performs G.calls G.stands G.made G.room (op_less_equal signed) (length x.now) (x.now ++ y.now) gates.old result gates.new }
     ensures means { (a b : ℤ) → Means (G.stands gates.old) signed x.now a → Means (G.stands gates.old) signed y.now b → Means (G.stands gates.new) false result (operate_bits LessEq signed (length x.now) a b) }
     ensures width { length result ≡ 1 }
@@ -58,7 +58,7 @@ pub fn greater_equal<G: Gates>(
     signed: bool,
 ) -> Word<G::Wire>
     requires same { length x.now ≡ length y.now }
-    requires room { Affords G.room gates.old (op_greater_equal signed) (length x.now) }
+    requires room { HasRoomFor G.calls G.room gates.old (op_greater_equal signed) (length x.now) (x.now ++ y.now) }
     ensures performs { Performs G.calls G.stands G.made G.room (op_greater_equal signed) (length x.now) (x.now ++ y.now) gates.old result gates.new }
     ensures means { (a b : ℤ) → Means (G.stands gates.old) signed x.now a → Means (G.stands gates.old) signed y.now b → Means (G.stands gates.new) false result (operate_bits GreaterEq signed (length x.now) a b) }
     ensures width { length result ≡ 1 }
@@ -70,7 +70,7 @@ pub fn greater_equal<G: Gates>(
 /// Whether two words differ anywhere, as a word of one wire.
 pub fn unequal<G: Gates>(gates: &mut G, x: &Word<G::Wire>, y: &Word<G::Wire>) -> Word<G::Wire>
     requires same { length x.now ≡ length y.now }
-    requires room { Affords G.room gates.old op_unequal (length x.now) }
+    requires room { HasRoomFor G.calls G.room gates.old op_unequal (length x.now) (x.now ++ y.now) }
     ensures performs { Performs G.calls G.stands G.made G.room op_unequal (length x.now) (x.now ++ y.now) gates.old result gates.new }
     ensures means { (signed : Bool) (a b : ℤ) → Means (G.stands gates.old) signed x.now a → Means (G.stands gates.old) signed y.now b → Means (G.stands gates.new) false result (operate_bits NotEqual signed (length x.now) a b) }
     ensures width { length result ≡ 1 }
@@ -81,7 +81,7 @@ pub fn unequal<G: Gates>(gates: &mut G, x: &Word<G::Wire>, y: &Word<G::Wire>) ->
 
 /// Whether a word is 0, as a word of one wire: the language's `!`.
 pub fn is_zero<G: Gates>(gates: &mut G, x: &Word<G::Wire>) -> Word<G::Wire>
-    requires { Affords G.room gates.old op_is_zero (length x.now) }
+    requires { HasRoomFor G.calls G.room gates.old op_is_zero (length x.now) x.now }
     ensures performs { Performs G.calls G.stands G.made G.room op_is_zero (length x.now) x.now gates.old result gates.new }
     ensures means { (signed : Bool) (a : ℤ) → Means (G.stands gates.old) signed x.now a → Means (G.stands gates.new) false result (number_of (is_zero a)) }
     ensures width { length result ≡ 1 }

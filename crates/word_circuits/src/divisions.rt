@@ -1,13 +1,12 @@
 //! Quotients and remainders.
 
 ghost use Rattle.std.specs.Prelude.{◌≡◌, ◌<◌, ◌≤◌, ◌+◌, ◌-◌, ◌*◌, ◌++◌, ◌∷◌, [], length, ℤ, Bool};
-ghost use Rattle.gate_core.specs.Circuit.{Plays};
-ghost use Rattle.gate_core.specs.Laws.{HasRoom};
+ghost use Rattle.gate_core.specs.Circuit.{Plays, Affords};
 ghost use Rattle.word_circuits.specs.Divisions.{divide_bit, divide_circuit, cond_negate, divide_sizes, quotient_circuit, remainder_circuit};
 ghost use Rattle.oc_values.specs.declared.integers.BinaryOp.TheVariants.{Div, Rem};
 ghost use Rattle.oc_values.specs.Integers.{operate_bits};
 ghost use Rattle.word_circuits.specs.Integers.{Means};
-ghost use Rattle.word_circuits.specs.Fragments.{Performs, Affords, ands_of, word_op};
+ghost use Rattle.word_circuits.specs.Fragments.{Performs, HasRoomFor};
 ghost use Rattle.word_circuits.specs.Fragments.Operation.{op_quotient, op_remainder};
 
 use crate::Word;
@@ -26,7 +25,7 @@ pub fn quotient<G: Gates>(
     signed: bool,
 ) -> Word<G::Wire>
     requires same { length x.now ≡ length y.now }
-    requires room { Affords G.room gates.old (op_quotient signed) (length x.now) }
+    requires room { HasRoomFor G.calls G.room gates.old (op_quotient signed) (length x.now) (x.now ++ y.now) }
     ensures performs { Performs G.calls G.stands G.made G.room (op_quotient signed) (length x.now) (x.now ++ y.now) gates.old result gates.new }
     ensures means { (a b : ℤ) → Means (G.stands gates.old) signed x.now a → Means (G.stands gates.old) signed y.now b → Means (G.stands gates.new) signed result (operate_bits Div signed (length x.now) a b) }
     ensures width { length result ≡ length x.now }
@@ -42,7 +41,7 @@ pub fn remainder<G: Gates>(
     signed: bool,
 ) -> Word<G::Wire>
     requires same { length x.now ≡ length y.now }
-    requires room { Affords G.room gates.old (op_remainder signed) (length x.now) }
+    requires room { HasRoomFor G.calls G.room gates.old (op_remainder signed) (length x.now) (x.now ++ y.now) }
     ensures performs { Performs G.calls G.stands G.made G.room (op_remainder signed) (length x.now) (x.now ++ y.now) gates.old result gates.new }
     ensures means { (a b : ℤ) → Means (G.stands gates.old) signed x.now a → Means (G.stands gates.old) signed y.now b → Means (G.stands gates.new) signed result (operate_bits Rem signed (length x.now) a b) }
     ensures width { length result ≡ length x.now }
@@ -60,7 +59,7 @@ fn quotient_wires<G: Gates>(
     requires some { 0 < length x.now }
     requires same { length x.now ≡ length y.now }
     requires fits { length x.now ≤ 64 }
-    requires room { HasRoom G.room gates.old (ands_of (word_op (op_quotient signed)) (length x.now)) }
+    requires room { (d : G.Wire) × Affords G.calls (quotient_circuit signed (length x.now) x.now y.now d) gates.old }
     ensures plays { (d : G.Wire) → Plays G.calls (quotient_circuit signed (length x.now) x.now y.now d) gates.old result.items gates.new }
     ensures len { length result.items ≡ length x.now }
 {
@@ -83,7 +82,7 @@ fn remainder_wires<G: Gates>(
     requires some { 0 < length x.now }
     requires same { length x.now ≡ length y.now }
     requires fits { length x.now ≤ 64 }
-    requires room { HasRoom G.room gates.old (ands_of (word_op (op_remainder signed)) (length x.now)) }
+    requires room { (d : G.Wire) × Affords G.calls (remainder_circuit signed (length x.now) x.now y.now d) gates.old }
     ensures plays { (d : G.Wire) → Plays G.calls (remainder_circuit signed (length x.now) x.now y.now d) gates.old result.items gates.new }
     ensures len { length result.items ≡ length x.now }
 {
@@ -103,7 +102,7 @@ fn divide_sizes<G: Gates>(
     requires some { 0 < length x.now }
     requires same { length x.now ≡ length y.now }
     requires fits { length x.now ≤ 64 }
-    requires room { HasRoom G.room gates.old (2 * (length x.now - 1) + length x.now * (2 * length x.now + 1)) }
+    requires room { (d : G.Wire) × Affords G.calls (divide_sizes (length x.now) x.now y.now d) gates.old }
     ensures plays { (d : G.Wire) → Plays G.calls (divide_sizes (length x.now) x.now y.now d) gates.old (record { quotient = result.0.items; rest = result.1.items }) gates.new }
     ensures quotient { length result.0.items ≡ length x.now }
     ensures rest { length result.1.items ≡ length x.now }
@@ -123,7 +122,7 @@ fn divide<G: Gates>(
     requires some { 0 < length x.now }
     requires same { length x.now ≡ length y.now }
     requires fits { length x.now ≤ 64 }
-    requires room { HasRoom G.room gates.old (length x.now * (2 * length x.now + 1)) }
+    requires room { Affords G.calls (divide_circuit (length x.now) x.now y.now) gates.old }
     ensures plays { Plays G.calls (divide_circuit (length x.now) x.now y.now) gates.old (record { quotient = result.0.items; rest = result.1.items }) gates.new }
     ensures quotient { length result.0.items ≡ length x.now }
     ensures rest { length result.1.items ≡ length x.now }
@@ -157,7 +156,7 @@ fn divide_bit<G: Gates>(
     requires some { 0 < length rest.now }
     requires same { length rest.now ≡ length turned.now }
     requires fits { length rest.now ≤ 64 }
-    requires room { HasRoom G.room gates.old (2 * length rest.now + 1) }
+    requires room { Affords G.calls (divide_bit next (turned.now ++ above ∷ []) one rest.now (length rest.now)) gates.old }
     ensures plays { Plays G.calls (divide_bit next (turned.now ++ above ∷ []) one rest.now (length rest.now)) gates.old (result.0, result.1.items) gates.new }
     ensures len { length result.1.items ≡ length rest.now }
 {
@@ -180,7 +179,7 @@ fn divide_bit<G: Gates>(
 fn cond_negate<G: Gates>(gates: &mut G, b: G::Wire, x: &[G::Wire]) -> ArrayVec<G::Wire, 64>
     requires some { 0 < length x.now }
     requires fits { length x.now ≤ 64 }
-    requires room { HasRoom G.room gates.old (length x.now - 1) }
+    requires room { (d : G.Wire) × Affords G.calls (cond_negate (length x.now) b x.now d) gates.old }
     ensures plays { (d : G.Wire) → Plays G.calls (cond_negate (length x.now) b x.now d) gates.old result.items gates.new }
     ensures len { length result.items ≡ length x.now }
 {

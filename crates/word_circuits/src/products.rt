@@ -1,13 +1,12 @@
 //! Products.
 
 ghost use Rattle.std.specs.Prelude.{◌≡◌, ◌<◌, ◌≤◌, ◌+◌, ◌-◌, ◌*◌, ◌++◌, length, ℤ, Bool};
-ghost use Rattle.gate_core.specs.Circuit.{Plays};
-ghost use Rattle.gate_core.specs.Laws.{HasRoom};
+ghost use Rattle.gate_core.specs.Circuit.{Plays, Affords};
 ghost use Rattle.word_circuits.specs.Products.{part, multiply_row, multiply_circuit};
 ghost use Rattle.oc_values.specs.declared.integers.BinaryOp.TheVariants.{Mul};
 ghost use Rattle.oc_values.specs.Integers.{operate_bits};
 ghost use Rattle.word_circuits.specs.Integers.{Means};
-ghost use Rattle.word_circuits.specs.Fragments.{Performs, Affords};
+ghost use Rattle.word_circuits.specs.Fragments.{Performs, HasRoomFor};
 ghost use Rattle.word_circuits.specs.Fragments.Operation.{op_multiply};
 
 use crate::Word;
@@ -19,7 +18,7 @@ use gate_core::Gates;
 /// The product of two words.
 pub fn multiply<G: Gates>(gates: &mut G, x: &Word<G::Wire>, y: &Word<G::Wire>) -> Word<G::Wire>
     requires same { length x.now ≡ length y.now }
-    requires room { Affords G.room gates.old op_multiply (length x.now) }
+    requires room { HasRoomFor G.calls G.room gates.old op_multiply (length x.now) (x.now ++ y.now) }
     ensures performs { Performs G.calls G.stands G.made G.room op_multiply (length x.now) (x.now ++ y.now) gates.old result gates.new }
     ensures means { (signed : Bool) (a b : ℤ) → Means (G.stands gates.old) signed x.now a → Means (G.stands gates.old) signed y.now b → Means (G.stands gates.new) signed result (operate_bits Mul signed (length x.now) a b) }
     ensures width { length result ≡ length x.now }
@@ -32,7 +31,7 @@ fn multiply_wires<G: Gates>(gates: &mut G, x: &[G::Wire], y: &[G::Wire]) -> Arra
     requires some { 0 < length x.now }
     requires same { length x.now ≡ length y.now }
     requires fits { length x.now ≤ 64 }
-    requires room { HasRoom G.room gates.old (length x.now * length x.now - length x.now + 1) }
+    requires room { (d : G.Wire) × Affords G.calls (multiply_circuit (length x.now) x.now y.now d) gates.old }
     ensures plays { (d : G.Wire) → Plays G.calls (multiply_circuit (length x.now) x.now y.now d) gates.old result.items gates.new }
     ensures len { length result.items ≡ length x.now }
 {
@@ -55,7 +54,7 @@ fn multiply_row<G: Gates>(
     requires place { place < length x.now }
     requires sum { length sum.now ≡ length x.now }
     requires fits { length x.now ≤ 64 }
-    requires room { HasRoom G.room gates.old (2 * (length x.now - place) - 1) }
+    requires room { (d : G.Wire) × Affords G.calls (multiply_row (length x.now) x.now b d place sum.now) gates.old }
     ensures plays { (d : G.Wire) → Plays G.calls (multiply_row (length x.now) x.now b d place sum.now) gates.old result.items gates.new }
     ensures len { length result.items ≡ length x.now }
 {
@@ -73,7 +72,7 @@ fn part_wires<G: Gates>(
 ) -> ArrayVec<G::Wire, 64>
     requires x { count ≤ length x.now }
     requires fits { count ≤ 64 }
-    requires room { HasRoom G.room gates.old count }
+    requires room { (d : G.Wire) × Affords G.calls (part x.now b d count) gates.old }
     ensures plays { (d : G.Wire) → Plays G.calls (part x.now b d count) gates.old result.items gates.new }
     ensures len { length result.items ≡ count }
 {

@@ -1,13 +1,12 @@
 //! Shifts, and words of another width.
 
 ghost use Rattle.std.specs.Prelude.{◌≡◌, ◌<◌, ◌≤◌, ◌+◌, ◌-◌, ◌*◌, ◌%◌, ◌^◌, ◌++◌, length, take, replicate, ℤ, Bool, IsTrue};
-ghost use Rattle.gate_core.specs.Circuit.{Plays};
-ghost use Rattle.gate_core.specs.Laws.{HasRoom};
+ghost use Rattle.gate_core.specs.Circuit.{Plays, Affords};
 ghost use Rattle.word_circuits.specs.Widths.{is_width, log2};
 ghost use Rattle.word_circuits.specs.Choices.{moved_in, moved, choose, shift_word_circuit};
 ghost use Rattle.oc_values.specs.Integers.{wrap_bits, shift_amount};
 ghost use Rattle.word_circuits.specs.Integers.{Means, shift};
-ghost use Rattle.word_circuits.specs.Fragments.{Performs, Affords};
+ghost use Rattle.word_circuits.specs.Fragments.{Performs, HasRoomFor};
 ghost use Rattle.word_circuits.specs.Fragments.Operation.{op_shift_known, op_shift_word, op_resize};
 
 use crate::Word;
@@ -26,7 +25,7 @@ pub fn shift_known<G: Gates>(
     left: bool,
     signed: bool,
 ) -> Word<G::Wire>
-    requires { Affords G.room gates.old (op_shift_known amount left signed) (length x.now) }
+    requires { HasRoomFor G.calls G.room gates.old (op_shift_known amount left signed) (length x.now) x.now }
     ensures performs { Performs G.calls G.stands G.made G.room (op_shift_known amount left signed) (length x.now) x.now gates.old result gates.new }
     ensures means { (a : ℤ) → Means (G.stands gates.old) signed x.now a → Means (G.stands gates.new) signed result (wrap_bits signed (length x.now) (shift left a (amount % length x.now))) }
     ensures width { length result ≡ length x.now }
@@ -46,7 +45,7 @@ pub fn shift_word<G: Gates>(
     signed: bool,
 ) -> Word<G::Wire>
     requires same { length x.now ≡ length amount.now }
-    requires room { Affords G.room gates.old (op_shift_word left signed) (length x.now) }
+    requires room { HasRoomFor G.calls G.room gates.old (op_shift_word left signed) (length x.now) (x.now ++ amount.now) }
     ensures performs { Performs G.calls G.stands G.made G.room (op_shift_word left signed) (length x.now) (x.now ++ amount.now) gates.old result gates.new }
     ensures means { (kind : Bool) (a b : ℤ) → Means (G.stands gates.old) signed x.now a → Means (G.stands gates.old) kind amount.now b → Means (G.stands gates.new) signed result (wrap_bits signed (length x.now) (shift left a (shift_amount (length x.now) b))) }
     ensures width { length result ≡ length x.now }
@@ -58,7 +57,7 @@ pub fn shift_word<G: Gates>(
 /// word repeats the top bit where `signed` says that it is a sign, and is filled with zero where not.
 pub fn resize<G: Gates>(gates: &mut G, x: &Word<G::Wire>, width: u8, signed: bool) -> Word<G::Wire>
     requires width { IsTrue (is_width width) }
-    requires room { Affords G.room gates.old (op_resize width signed) (length x.now) }
+    requires room { HasRoomFor G.calls G.room gates.old (op_resize width signed) (length x.now) x.now }
     ensures performs { Performs G.calls G.stands G.made G.room (op_resize width signed) (length x.now) x.now gates.old result gates.new }
     ensures means { (kind : Bool) (a : ℤ) → Means (G.stands gates.old) signed x.now a → Means (G.stands gates.new) kind result (wrap_bits kind width a) }
     ensures width { length result ≡ width }
@@ -121,7 +120,7 @@ fn shift_wires<G: Gates>(
 ) -> ArrayVec<G::Wire, 64>
     requires width { IsTrue (is_width (length x.now)) }
     requires same { length x.now ≡ length amount.now }
-    requires room { HasRoom G.room gates.old (length x.now * log2 (length x.now)) }
+    requires room { Affords G.calls (shift_word_circuit left signed (length x.now) x.now amount.now) gates.old }
     ensures plays { Plays G.calls (shift_word_circuit left signed (length x.now) x.now amount.now) gates.old result.items gates.new }
     ensures len { length result.items ≡ length x.now }
 {
@@ -148,7 +147,7 @@ fn shift_step<G: Gates>(
     requires fits { length x.now ≤ 64 }
     requires place { 2 ^ k ≤ length x.now }
     requires small { k ≤ 6 }
-    requires room { HasRoom G.room gates.old (length x.now) }
+    requires room { Affords G.calls (choose chosen x.now (moved left (length x.now) (2 ^ k) (moved_in left signed (length x.now) x.now zero) x.now) x.now zero (length x.now)) gates.old }
     ensures plays { Plays G.calls (choose chosen x.now (moved left (length x.now) (2 ^ k) (moved_in left signed (length x.now) x.now zero) x.now) x.now zero (length x.now)) gates.old result.items gates.new }
     ensures len { length result.items ≡ length x.now }
 {

@@ -1,8 +1,7 @@
 //! Single wires, and lists of wires.
 
 ghost use Rattle.std.specs.Prelude.{◌≡◌, ◌<◌, ◌≤◌, ◌+◌, [], ◌∷◌, ◌++◌, length, get_or, replicate, take, drop};
-ghost use Rattle.gate_core.specs.Circuit.{Plays};
-ghost use Rattle.gate_core.specs.Laws.{HasRoom};
+ghost use Rattle.gate_core.specs.Circuit.{Plays, Affords};
 ghost use Rattle.word_circuits.specs.Chains.{adder};
 
 use arrayvec::ArrayVec;
@@ -62,7 +61,7 @@ pub(crate) fn add_bit<G: Gates>(
     y: G::Wire,
     carry: G::Wire,
 ) -> (G::Wire, G::Wire)
-    requires { HasRoom G.room gates.old 1 }
+    requires { Affords G.calls (adder x y carry) gates.old }
     ensures { Plays G.calls (adder x y carry) gates.old result gates.new }
 {
     let p = gates.xor(x, carry);

@@ -2,12 +2,16 @@ use Rattle.std.proofs.Common.{get_or, arith}
 use Rattle.word_circuits.specs.Choices.{choose_bit}
 use Rattle.word_circuits.proofs.Choosing.{Costs-choose}
 use Rattle.gate_core.proofs.Playing.{Plays-row_more, Costs-room}
+use Rattle.gate_core.proofs.Affording.{Affords-row}
+use Rattle.word_circuits.proofs.Affording.{of_three}
+use Rattle.gate_core.specs.Circuit.{Affords}
 use Rattle.word_circuits.proofs.choices.choose_wires.Goals as goal
 
 pub choose_bit-requires : goal.choose_bit-requires
 choose_bit-requires g c =
-    let left = Costs-room g.G.Gates.calls g.G.Gates.room g.met.G.Gates.counts.and_room _ c.places.i _ _ _ _ (Costs-choose c.args.e c.args.x.now c.args.y.now c.args.kept.now c.wire.result c.places.i) (c.places.invariant.1 c.wire.result) in
-    omega (arith, left, c.places-test.true, c.requires.room)
+    let m = g.G.Gates.calls in
+    let d = c.requires.room.0 in
+    of_three (λ x y z. Affords m (choose_bit c.args.e x y z) c.places.gates) _ _ _ _ _ _ (c.wire.ensures d) (c.wire-in-places.ensures d) (c.wire-in-places-2.ensures d) (Affords-row m (λ i. choose_bit c.args.e (get_or c.args.x.now i d) (get_or c.args.y.now i d) (get_or c.args.kept.now i d)) c.args.count c.places.i _ _ _ c.places-test.true c.requires.room.1 (c.places.invariant.1 d))
 
 pub places-preserved : goal.places-preserved
 places-preserved g c = (

@@ -2,16 +2,23 @@ use Rattle.std.proofs.Common.{false, bit_or, ◌++◌, length, arith, refl, sym,
 use Rattle.oc_values.specs.Integers.{combine_bits}
 use Rattle.word_circuits.specs.Choices.{either_circuit}
 use Rattle.word_circuits.specs.Fragments.Operation.{op_either}
-use Rattle.word_circuits.proofs.Calling.{width_pos, width_most, width_of, owed, carried_two, means_two, length-two, on_two}
+use Rattle.word_circuits.proofs.Calling.{width_pos, width_most, width_of, owed, carried_two, means_two, length-two, on_two, afforded_two, apart}
 use Rattle.word_circuits.proofs.Selecting.{Uniform-either, Counted-either}
 use Rattle.word_circuits.proofs.Selecting.{integer-either}
 use Rattle.word_circuits.proofs.choices.either.Goals as goal
 
 pub either_wires-requires : goal.either_wires-requires
 either_wires-requires g c =
-    let x = c.wires.ensures.value in
-    let y = c.wires-2.ensures.value in
-    (search rules, (ap length x ∙ c.requires.same ∙ ap length (sym y), (width_most _ c.wires.ensures.width, rw x c.requires.room)))
+    let x = c.args.x.now in
+    let y = c.args.y.now in
+    let w = length x in
+    let ex = c.wires.ensures.value in
+    let ey = c.wires-2.ensures.value in
+    let pos = width_pos w (width_of _ x ex c.wires.ensures.width) in
+    let same = ap length ex ∙ c.requires.same ∙ ap length (sym ey) in
+    let room = afforded_two g.G.Gates.calls g.G.Gates.made g.G.Gates.room g.met.G.Gates.counts op_either w (λ d u v. either_circuit (length u) u v d) _ x _ y _ (λ d. apart (λ u v. either_circuit w u v d) x y w refl)
+    ex ey refl pos refl (sym c.requires.same) (Uniform-either w) (Counted-either w) c.requires.room in
+    (search rules, (same, (width_most _ c.wires.ensures.width, room)))
 
 pub returns : goal.returns
 returns g c =

@@ -2,16 +2,23 @@ use Rattle.std.proofs.Common.{false, bit_and, ◌++◌, length, arith, refl, sym
 use Rattle.oc_values.specs.Integers.{combine_bits}
 use Rattle.word_circuits.specs.Choices.{meet_circuit}
 use Rattle.word_circuits.specs.Fragments.Operation.{op_meet}
-use Rattle.word_circuits.proofs.Calling.{width_pos, width_most, width_of, owed, carried_two, means_two, length-two, on_two}
+use Rattle.word_circuits.proofs.Calling.{width_pos, width_most, width_of, owed, carried_two, means_two, length-two, on_two, afforded_two, apart}
 use Rattle.word_circuits.proofs.Selecting.{Uniform-meet, Counted-meet}
 use Rattle.word_circuits.proofs.Selecting.{integer-meet}
 use Rattle.word_circuits.proofs.choices.meet.Goals as goal
 
 pub meet_wires-requires : goal.meet_wires-requires
 meet_wires-requires g c =
-    let x = c.wires.ensures.value in
-    let y = c.wires-2.ensures.value in
-    (search rules, (ap length x ∙ c.requires.same ∙ ap length (sym y), (width_most _ c.wires.ensures.width, rw x c.requires.room)))
+    let x = c.args.x.now in
+    let y = c.args.y.now in
+    let w = length x in
+    let ex = c.wires.ensures.value in
+    let ey = c.wires-2.ensures.value in
+    let pos = width_pos w (width_of _ x ex c.wires.ensures.width) in
+    let same = ap length ex ∙ c.requires.same ∙ ap length (sym ey) in
+    let room = afforded_two g.G.Gates.calls g.G.Gates.made g.G.Gates.room g.met.G.Gates.counts op_meet w (λ d u v. meet_circuit (length u) u v d) _ x _ y _ (λ d. apart (λ u v. meet_circuit w u v d) x y w refl)
+    ex ey refl pos refl (sym c.requires.same) (Uniform-meet w) (Counted-meet w) c.requires.room in
+    (search rules, (same, (width_most _ c.wires.ensures.width, room)))
 
 pub returns : goal.returns
 returns g c =

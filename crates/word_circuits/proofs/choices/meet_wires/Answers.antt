@@ -1,13 +1,17 @@
-use Rattle.std.proofs.Common.{get_or, arith, refl}
+use Rattle.std.proofs.Common.{get_or, arith, refl, length}
 use Rattle.gate_core.specs.Circuit.Circuit.{meet, give}
 use Rattle.word_circuits.proofs.Choosing.{Costs-meet}
 use Rattle.gate_core.proofs.Playing.{Plays-row_more, Costs-room}
+use Rattle.gate_core.proofs.Affording.{Affords-row}
+use Rattle.word_circuits.proofs.Affording.{of_two}
 use Rattle.word_circuits.proofs.choices.meet_wires.Goals as goal
 
 pub and-requires : goal.and-requires
 and-requires g c =
-    let left = Costs-room g.G.Gates.calls g.G.Gates.room g.met.G.Gates.counts.and_room _ c.places.i _ _ _ _ (Costs-meet c.args.x.now c.args.y.now c.wire.result c.places.i) (c.places.invariant.1 c.wire.result) in
-    omega (arith, left, c.places-test.true, c.requires.room)
+    let m = g.G.Gates.calls in
+    let d = c.requires.room.0 in
+    let turn = Affords-row m (λ i. meet (get_or c.args.x.now i d) (get_or c.args.y.now i d) (λ r. give r)) (length c.args.x.now) c.places.i _ _ _ c.places-test.true c.requires.room.1 (c.places.invariant.1 d) in
+    of_two (λ x y. m.has_room c.places.gates x y) _ _ _ _ (c.wire.ensures d) (c.wire-in-places.ensures d) turn.0
 
 pub places-preserved : goal.places-preserved
 places-preserved g c = (

@@ -1,18 +1,22 @@
-use Rattle.std.proofs.Common.{◌≡◌, ◌-◌, ◌+◌, length, arith, refl}
+use Rattle.std.proofs.Common.{◌≡◌, ◌-◌, ◌+◌, length, arith, refl, [], ◌∷◌}
 use Rattle.gate_core.specs.Circuit.{then}
 use Rattle.gate_core.specs.Circuit.Circuit.{meet, give}
 use Rattle.gate_core.proofs.Playing.{Plays-more, Costs-room}
 use Rattle.word_circuits.specs.Chains.{alike}
 use Rattle.word_circuits.proofs.Comparing.{Costs-rest}
 use Rattle.word_circuits.proofs.AddingPlays.{Plays-conjunction_step, Plays-conjunction, Plays-alike, Plays-equal}
+use Rattle.word_circuits.proofs.Affording.{Affords-conjunction}
 use Rattle.word_circuits.proofs.comparisons.all_alike.Goals as goal
 
 pub and-all-requires : goal.and-all-requires
 and-all-requires g c =
-    let d = c.wire.result in
-    let f = alike c.args.x.now c.args.y.now d in
-    let left = Costs-room g.G.Gates.calls g.G.Gates.room g.met.G.Gates.counts.and_room _ c.places.i _ _ _ _ (Costs-rest f c.places.i c.alike-all.result (λ i p z. (refl, tt))) (c.places.invariant d) in
-    omega (arith, left, c.places-test.true, c.requires.room)
+    let m = g.G.Gates.calls in
+    let x = c.args.x.now in
+    let y = c.args.y.now in
+    let d = c.requires.room.0 in
+    Affords-conjunction m (alike x y d) (λ t. give (t ∷ [])) (length x) c.places.i c.alike-all.result _ _ _ _ c.places-test.true c.requires.room.1
+    (Plays-alike m x y d 0 _ _ _ _ (c.wire.ensures d) (c.wire-2.ensures d) c.alike-all.ensures) (c.places.invariant d)
+    (Plays-alike m x y d (c.places.i + 1) _ _ _ _ (c.wire-in-places.ensures d) (c.wire-in-places-2.ensures d) c.alike-next.ensures)
 
 pub places-preserved : goal.places-preserved
 places-preserved g c =

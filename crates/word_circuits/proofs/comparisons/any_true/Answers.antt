@@ -1,18 +1,21 @@
-use Rattle.std.proofs.Common.{◌≡◌, ◌-◌, ◌+◌, length, arith, refl}
+use Rattle.std.proofs.Common.{◌≡◌, ◌-◌, ◌+◌, length, arith, refl, [], ◌∷◌}
 use Rattle.gate_core.specs.Circuit.{then}
-use Rattle.gate_core.specs.Circuit.Circuit.{meet, give}
+use Rattle.gate_core.specs.Circuit.Circuit.{meet, give, flip}
 use Rattle.gate_core.proofs.Playing.{Plays-more, Costs-room}
 use Rattle.word_circuits.specs.Chains.{other}
 use Rattle.word_circuits.proofs.Comparing.{Costs-rest}
 use Rattle.word_circuits.proofs.AddingPlays.{Plays-conjunction_step, Plays-conjunction, Plays-other, Plays-to_bool}
+use Rattle.word_circuits.proofs.Affording.{Affords-conjunction}
 use Rattle.word_circuits.proofs.comparisons.any_true.Goals as goal
 
 pub and-none-requires : goal.and-none-requires
 and-none-requires g c =
-    let d = c.wire.result in
-    let f = other c.args.x.now d in
-    let left = Costs-room g.G.Gates.calls g.G.Gates.room g.met.G.Gates.counts.and_room _ c.places.i _ _ _ _ (Costs-rest f c.places.i c.not-none.result (λ i z. (refl, tt))) (c.places.invariant d) in
-    omega (arith, left, c.places-test.true, c.requires.room)
+    let m = g.G.Gates.calls in
+    let x = c.args.x.now in
+    let d = c.requires.room.0 in
+    Affords-conjunction m (other x d) (λ t. flip t (λ r. give (r ∷ []))) (length x) c.places.i c.not-none.result _ _ _ _ c.places-test.true c.requires.room.1
+    (Plays-other m x d 0 _ _ _ (c.wire.ensures d) c.not-none.ensures) (c.places.invariant d)
+    (Plays-other m x d (c.places.i + 1) _ _ _ (c.wire-in-places.ensures d) c.not-next.ensures)
 
 pub places-preserved : goal.places-preserved
 places-preserved g c =

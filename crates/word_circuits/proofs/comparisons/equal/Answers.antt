@@ -2,17 +2,23 @@ use Rattle.std.proofs.Common.{◌-ℤ◌, ◌++◌, length, arith, refl, sym, ap
 use Rattle.oc_values.specs.Integers.{number_of, is_zero}
 use Rattle.word_circuits.specs.Chains.{equal_circuit}
 use Rattle.word_circuits.specs.Fragments.Operation.{op_equal}
-use Rattle.word_circuits.proofs.Calling.{width_pos, width_of, owed, carried_two, means_two, length-two, on_two}
+use Rattle.word_circuits.proofs.Calling.{width_pos, width_of, owed, carried_two, means_two, length-two, on_two, afforded_two, apart}
 use Rattle.word_circuits.proofs.Summing.{Uniform-equal, Counted-equal}
 use Rattle.word_circuits.proofs.Totals.{integer-equal}
 use Rattle.word_circuits.proofs.comparisons.equal.Goals as goal
 
 pub all_alike-requires : goal.all_alike-requires
 all_alike-requires g c =
-    let x = c.wires.ensures.value in
-    let y = c.wires-2.ensures.value in
-    let some = width_pos _ c.wires.ensures.width in
-    record { some = some; same = ap length x ∙ c.requires.same ∙ ap length (sym y); room = rw x c.requires.room }
+    let x = c.args.x.now in
+    let y = c.args.y.now in
+    let w = length x in
+    let ex = c.wires.ensures.value in
+    let ey = c.wires-2.ensures.value in
+    let pos = width_pos w (width_of _ x ex c.wires.ensures.width) in
+    let same = ap length ex ∙ c.requires.same ∙ ap length (sym ey) in
+    let room = afforded_two g.G.Gates.calls g.G.Gates.made g.G.Gates.room g.met.G.Gates.counts op_equal w (λ d u v. equal_circuit (length u) u v d) _ x _ y _ (λ d. apart (λ u v. equal_circuit w u v d) x y w refl)
+    ex ey refl pos refl (sym c.requires.same) (Uniform-equal w) (Counted-equal w) c.requires.room in
+    record { some = width_pos _ c.wires.ensures.width; same = same; room = room }
 
 pub returns : goal.returns
 returns g c =

@@ -4,16 +4,24 @@ use Rattle.gate_core.proofs.Playing.{Plays-then}
 use Rattle.oc_values.specs.Integers.{number_of, is_zero}
 use Rattle.word_circuits.specs.Chains.{less_circuit, other_word}
 use Rattle.word_circuits.specs.Fragments.Operation.{op_greater_equal}
-use Rattle.word_circuits.proofs.Calling.{width_pos, width_most, width_of, owed, carried_two, means_two, length-two, on_two}
+use Rattle.word_circuits.proofs.Calling.{width_pos, width_most, width_of, owed, carried_two, means_two, length-two, on_two, afforded_two, apart}
 use Rattle.word_circuits.proofs.Deriving.{Uniform-greater_equal, Counted-greater_equal, integer-greater_equal}
+use Rattle.gate_core.proofs.Affording.{Affords-first}
 use Rattle.word_circuits.proofs.derived.greater_equal.Goals as goal
 
 pub less_wires-below-requires : goal.less_wires-below-requires
 less_wires-below-requires g c =
-    let l = ap length c.wires.ensures.value in
-    let y = c.wires-2.ensures.value in
-    let some = width_pos _ c.wires.ensures.width in
-    (search rules, (some, (l ∙ c.requires.same ∙ ap length (sym y), (width_most _ c.wires.ensures.width, omega (arith, l, c.requires.same, c.requires.room)))))
+    let x = c.args.x.now in
+    let y = c.args.y.now in
+    let w = length x in
+    let ex = c.wires.ensures.value in
+    let ey = c.wires-2.ensures.value in
+    let pos = width_pos w (width_of _ x ex c.wires.ensures.width) in
+    let same = ap length ex ∙ c.requires.same ∙ ap length (sym ey) in
+    let room = afforded_two g.G.Gates.calls g.G.Gates.made g.G.Gates.room g.met.G.Gates.counts (op_greater_equal c.args.signed) w (λ d u v. then (less_circuit c.args.signed (length u) u v) (other_word d)) _ x _ y _ (λ d. apart (λ u v. then (less_circuit c.args.signed w u v) (other_word d)) x y w refl)
+    ex ey refl pos refl (sym c.requires.same) (Uniform-greater_equal c.args.signed w) (Counted-greater_equal c.args.signed w pos) c.requires.room in
+    let first = Affords-first g.G.Gates.calls (less_circuit c.args.signed (length c.wires.result.now) c.wires.result.now c.wires-2.result.now) (other_word room.0) c.args.gates.now room.1 in
+    (search rules, (width_pos _ c.wires.ensures.width, (same, (width_most _ c.wires.ensures.width, first))))
 
 pub returns : goal.returns
 returns g c =

@@ -3,14 +3,21 @@ use Rattle.gate_core.proofs.Playing.{Plays-then}
 use Rattle.oc_values.specs.Integers.{number_of, is_zero}
 use Rattle.word_circuits.specs.Chains.{to_bool_circuit, other_word}
 use Rattle.word_circuits.specs.Fragments.Operation.{op_is_zero}
-use Rattle.word_circuits.proofs.Calling.{width_pos, width_of, owed, carried_one, means_one, on_one}
+use Rattle.word_circuits.proofs.Calling.{width_pos, width_of, owed, carried_one, means_one, on_one, afforded_one}
 use Rattle.word_circuits.proofs.Deriving.{Uniform-is_zero, Counted-is_zero, integer-is_zero}
+use Rattle.gate_core.proofs.Affording.{Affords-first}
+use Rattle.gate_core.specs.Circuit.{then}
 use Rattle.word_circuits.proofs.derived.is_zero.Goals as goal
 
 pub any_true-requires : goal.any_true-requires
 any_true-requires g c =
-    let x = c.wires.ensures.value in
-    record { some = width_pos _ c.wires.ensures.width; room = rw x c.requires }
+    let x = c.args.x.now in
+    let w = length x in
+    let ex = c.wires.ensures.value in
+    let pos = width_pos w (width_of _ x ex c.wires.ensures.width) in
+    let room = afforded_one g.G.Gates.calls g.G.Gates.made g.G.Gates.room g.met.G.Gates.counts op_is_zero w (λ d u. then (to_bool_circuit (length u) u d) (other_word d)) c.wires.result.now x c.args.gates.now (λ d. refl) ex pos refl (Uniform-is_zero w) (Counted-is_zero w) c.requires in
+    let first = Affords-first g.G.Gates.calls (to_bool_circuit (length c.wires.result.now) c.wires.result.now room.0) (other_word room.0) c.args.gates.now room.1 in
+    record { some = width_pos _ c.wires.ensures.width; room = (room.0, first) }
 
 pub returns : goal.returns
 returns g c =

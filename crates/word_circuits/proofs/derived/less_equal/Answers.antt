@@ -4,16 +4,23 @@ use Rattle.gate_core.proofs.Playing.{Plays-then}
 use Rattle.oc_values.specs.Integers.{number_of, is_zero}
 use Rattle.word_circuits.specs.Chains.{less_circuit, other_word}
 use Rattle.word_circuits.specs.Fragments.Operation.{op_less_equal}
-use Rattle.word_circuits.proofs.Calling.{width_pos, width_most, width_of, owed, carried_two, means_two, length-two, on_two}
+use Rattle.word_circuits.proofs.Calling.{width_pos, width_most, width_of, owed, carried_two, means_two, length-two, on_two, afforded_two, apart}
 use Rattle.word_circuits.proofs.Deriving.{Uniform-less_equal, Counted-less_equal, integer-less_equal}
+use Rattle.gate_core.proofs.Affording.{Affords-first}
 use Rattle.word_circuits.proofs.derived.less_equal.Goals as goal
 
 pub less_wires-above-requires : goal.less_wires-above-requires
 less_wires-above-requires g c =
-    let l = ap length c.wires.ensures.value in
-    let y = c.wires-2.ensures.value in
-    let some = width_pos _ c.wires.ensures.width in
-    (search rules, (some, (l ∙ sym c.requires.same ∙ ap length (sym y), (width_most _ c.wires.ensures.width, omega (arith, l, c.requires.same, c.requires.room)))))
+    let x = c.args.x.now in
+    let y = c.args.y.now in
+    let w = length x in
+    let ey = c.wires.ensures.value in
+    let ex = c.wires-2.ensures.value in
+    let pos = width_pos w (width_of _ x ex c.wires-2.ensures.width) in
+    let same = ap length ey ∙ sym c.requires.same ∙ ap length (sym ex) in
+    let room = afforded_two g.G.Gates.calls g.G.Gates.made g.G.Gates.room g.met.G.Gates.counts (op_less_equal c.args.signed) w (λ d u v. then (less_circuit c.args.signed (length v) v u) (other_word d)) c.wires-2.result.now x c.wires.result.now y c.args.gates.now
+    (λ d. apart (λ u v. then (less_circuit c.args.signed w v u) (other_word d)) x y w refl ∙ ap (λ n. then (less_circuit c.args.signed n y x) (other_word d)) c.requires.same) ex ey refl pos refl (sym c.requires.same) (Uniform-less_equal c.args.signed w) (Counted-less_equal c.args.signed w pos) c.requires.room in
+    (search rules, (width_pos _ c.wires.ensures.width, (same, (width_most _ c.wires.ensures.width, Affords-first g.G.Gates.calls (less_circuit c.args.signed (length c.wires.result.now) c.wires.result.now c.wires-2.result.now) (other_word room.0) c.args.gates.now room.1))))
 
 pub returns : goal.returns
 returns g c =

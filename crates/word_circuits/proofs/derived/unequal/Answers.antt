@@ -4,16 +4,24 @@ use Rattle.gate_core.proofs.Playing.{Plays-then}
 use Rattle.oc_values.specs.Integers.{number_of, is_zero}
 use Rattle.word_circuits.specs.Chains.{equal_circuit, other_word}
 use Rattle.word_circuits.specs.Fragments.Operation.{op_unequal}
-use Rattle.word_circuits.proofs.Calling.{width_pos, width_most, width_of, owed, carried_two, means_two, length-two, on_two}
+use Rattle.word_circuits.proofs.Calling.{width_pos, width_most, width_of, owed, carried_two, means_two, length-two, on_two, afforded_two, apart}
 use Rattle.word_circuits.proofs.Deriving.{Uniform-unequal, Counted-unequal, integer-unequal}
+use Rattle.gate_core.proofs.Affording.{Affords-first}
 use Rattle.word_circuits.proofs.derived.unequal.Goals as goal
 
 pub all_alike-requires : goal.all_alike-requires
 all_alike-requires g c =
-    let l = ap length c.wires.ensures.value in
-    let y = c.wires-2.ensures.value in
-    let some = width_pos _ c.wires.ensures.width in
-    record { some = some; same = l ∙ c.requires.same ∙ ap length (sym y); room = omega (arith, l, c.requires.same, c.requires.room) }
+    let x = c.args.x.now in
+    let y = c.args.y.now in
+    let w = length x in
+    let ex = c.wires.ensures.value in
+    let ey = c.wires-2.ensures.value in
+    let pos = width_pos w (width_of _ x ex c.wires.ensures.width) in
+    let same = ap length ex ∙ c.requires.same ∙ ap length (sym ey) in
+    let room = afforded_two g.G.Gates.calls g.G.Gates.made g.G.Gates.room g.met.G.Gates.counts op_unequal w (λ d u v. then (equal_circuit (length u) u v d) (other_word d)) _ x _ y _ (λ d. apart (λ u v. then (equal_circuit w u v d) (other_word d)) x y w refl)
+    ex ey refl pos refl (sym c.requires.same) (Uniform-unequal w) (Counted-unequal w) c.requires.room in
+    let first = Affords-first g.G.Gates.calls (equal_circuit (length c.wires.result.now) c.wires.result.now c.wires-2.result.now room.0) (other_word room.0) c.args.gates.now room.1 in
+    record { some = width_pos _ c.wires.ensures.width; same = same; room = (room.0, first) }
 
 pub returns : goal.returns
 returns g c =

@@ -1,16 +1,24 @@
-use Rattle.std.proofs.Common.{◌≡◌, ◌-◌, length, arith}
+use Rattle.std.proofs.Common.{ap, ◌∙◌, ◌≡◌, ◌-◌, length, arith, []}
 use Rattle.gate_core.proofs.Playing.{Plays-more, Costs-room}
 use Rattle.word_circuits.specs.Chains.{Carried}
-use Rattle.word_circuits.specs.Divisions.{negate_step}
+use Rattle.word_circuits.specs.Divisions.{negate_step, last_negated}
 use Rattle.word_circuits.proofs.Signing.{Costs-negate_steps}
 use Rattle.word_circuits.proofs.DividingPlays.{Plays-negate_step, Plays-cond_negate}
+use Rattle.gate_core.proofs.Affording.{Affords-first, Affords-turn}
+use Rattle.gate_core.specs.Circuit.{times}
+use Rattle.word_circuits.proofs.Affording.{of_one}
 use Rattle.word_circuits.proofs.divisions.cond_negate.Goals as goal
 
 pub and-carry-requires : goal.and-carry-requires
 and-carry-requires g c =
-    let d = c.args.b in
-    let left = Costs-room g.G.Gates.calls g.G.Gates.room g.met.G.Gates.counts.and_room _ c.places.i _ _ _ _ (Costs-negate_steps c.args.x.now c.args.b d c.places.i) (c.places.invariant.1 d) in
-    omega (arith, left, c.places-test.true, c.requires.room)
+    let m = g.G.Gates.calls in
+    let x = c.args.x.now in
+    let b = c.args.b in
+    let d = c.requires.room.0 in
+    let a : Carried _ = record { sums = c.places.wires.items; carry = c.places.carry } in
+    let all = Affords-first m (times (length x - 1) (negate_step x b d) (record { sums = []; carry = b })) (last_negated x b d (length x - 1)) _ c.requires.room.1 in
+    let turn = Affords-turn m (negate_step x b d) (record { sums = []; carry = b }) (length x - 1) c.places.i _ _ a c.places-test.true all (c.places.invariant.1 d) in
+    of_one (λ y. m.has_room c.places.gates y a.carry) _ _ (c.xor-turned.ensures ∙ ap (λ u. m.xor_wire c.places.gates u b) (c.wire.ensures d)) turn.0
 
 pub places-preserved : goal.places-preserved
 places-preserved g c =

@@ -5,20 +5,25 @@ use Rattle.gate_core.proofs.Playing.{Costs-room, Plays-more}
 use Rattle.word_circuits.specs.Divisions.{divide_bit, divide_step, Divided}
 use Rattle.word_circuits.proofs.Dividing.{Costs-divide_steps, bits_left}
 use Rattle.word_circuits.proofs.DividingPlays.{Plays-divide_step, Plays-divide, Plays-turned_divisor}
+use Rattle.word_circuits.proofs.Affording.{Affords-divide_step}
 use Rattle.word_circuits.proofs.divisions.divide.Goals as goal
 
 pub divide_bit-parts-requires : goal.divide_bit-parts-requires
 divide_bit-parts-requires g c =
+    let m = g.G.Gates.calls in
     let x = c.args.x.now in
+    let y = c.args.y.now in
     let w = length x in
-    let i = c.bits.i in
-    let start = c.copies-rest.result.items in
-    let ls = ap length c.copies-rest.ensures ∙ length-replicate w c.known-zero.result in
+    let low = c.known-zero.result in
+    let high = c.known-one.result in
     let ny = c.flip_wires-turned.result.items ++ c.not-above.result ∷ [] in
-    let left = Costs-room g.G.Gates.calls g.G.Gates.room g.met.G.Gates.counts.and_room _ (i * (2 * w + 1)) _ _ _ _ (Costs-divide_steps x ny c.known-one.result start w i ls) c.bits.invariant.2 in
+    let a : Divided _ = record { quotient = c.bits.quotient.items; rest = c.bits.rest.items } in
     let lt = ap length c.as_slice.ensures.value in
     let lr = ap length c.as_slice-in-bits.ensures.value ∙ c.bits.invariant.1 in
-    (search rules, (omega (arith, lr, c.requires.some), (omega (arith, lr, lt, c.flip_wires-turned.ensures.len), (omega (arith, lr, c.requires.fits), rw lr (bits_left w i _ _ left c.requires.room c.bits-test.true)))))
+    let turned = Plays-turned_divisor m y low high c.not-above.result w c.flip_wires-turned.result.items c.args.gates.now (sym c.requires.same) c.not-above.ensures (c.flip_wires-turned.ensures.plays high) in
+    let room = Affords-divide_step m w x y low high ny c.copies-rest.result.items c.bits.i a _ _ c.wire-next.result (c.as_slice.result.now ++ c.not-above.result ∷ []) c.as_slice-in-bits.result.now
+    c.known-zero.ensures c.known-one.ensures c.copies-rest.ensures turned c.bits-test.true c.bits.invariant.2 (c.wire-next.ensures high) (ap (λ l. l ++ c.not-above.result ∷ []) c.as_slice.ensures.value) c.as_slice-in-bits.ensures.value lr c.requires.room in
+    (search rules, (omega (arith, lr, c.requires.some), (omega (arith, lr, lt, c.flip_wires-turned.ensures.len), (omega (arith, lr, c.requires.fits), room))))
 
 pub bits-preserved : goal.bits-preserved
 bits-preserved g c =

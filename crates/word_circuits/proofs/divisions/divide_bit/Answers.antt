@@ -4,35 +4,42 @@ use Rattle.gate_core.proofs.Playing.{Costs-room}
 use Rattle.word_circuits.specs.Chains.{adder}
 use Rattle.word_circuits.proofs.Adding.{Costs-adder, Costs-chain}
 use Rattle.word_circuits.proofs.DividingPlays.{Plays-divide_bit_top}
+use Rattle.word_circuits.proofs.Affording.{Affords-divide_chain, Affords-divide_top, Affords-divide_choice}
 use Rattle.word_circuits.proofs.divisions.divide_bit.Goals as goal
 
 pub chain-chained-requires : goal.chain-chained-requires
 chain-chained-requires g c =
-    let w = length c.args.rest.now in
+    let rest = c.args.rest.now in
+    let w = length rest in
     let l = ap length (c.as_slice.ensures.value ∙ c.joined-taken.ensures) in
-    let k = ap length c.front.ensures ∙ length-take-le (w - 1) c.args.rest.now (omega arith) in
-    (search rules, (omega (arith, l, k, c.requires.some), (omega (arith, c.requires.same), (c.requires.fits, omega (arith, c.requires.room)))))
+    let k = ap length c.front.ensures ∙ length-take-le (w - 1) rest (omega arith) in
+    let et = c.as_slice.ensures.value ∙ c.joined-taken.ensures ∙ ap (λ l. c.args.next ∷ l) c.front.ensures in
+    let room = Affords-divide_chain g.G.Gates.calls c.args.next c.args.turned.now c.args.above c.args.one rest c.as_slice.result.now w c.args.gates.now c.requires.some (sym c.requires.same) et c.requires.room in
+    (search rules, (omega (arith, l, k, c.requires.some), (omega (arith, c.requires.same), (c.requires.fits, (c.args.one, room)))))
 
 pub add_bit-top-requires : goal.add_bit-top-requires
 add_bit-top-requires g c =
-    let d = c.args.one in
-    let w = length c.args.rest.now in
-    let left = Costs-room g.G.Gates.calls g.G.Gates.room g.met.G.Gates.counts.and_room _ w _ _ _ _ (Costs-chain c.as_slice.result.now c.args.turned.now d d w) (c.chain-chained.ensures.plays d) in
-    omega (arith, left, c.requires.room)
+    let rest = c.args.rest.now in
+    let et = c.as_slice.ensures.value ∙ c.joined-taken.ensures ∙ ap (λ l. c.args.next ∷ l) c.front.ensures in
+    let high = c.args.one in
+    Affords-divide_top g.G.Gates.calls c.args.next c.args.turned.now c.args.above high rest c.as_slice.result.now (length rest) c.args.gates.now c.requires.some (sym c.requires.same) et c.requires.room
+    c.chain-chained.result.0.items c.chain-chained.result.1 c.wire.result c.chain-chained.new.gates (c.wire.ensures high) (c.chain-chained.ensures.plays high)
 
 pub choose_wires-left-requires : goal.choose_wires-left-requires
 choose_wires-left-requires g c =
-    let m = g.G.Gates.calls in
-    let law = g.met.G.Gates.counts.and_room in
-    let d = c.args.one in
-    let w = length c.args.rest.now in
-    let left = Costs-room m g.G.Gates.room law _ w _ _ _ _ (Costs-chain c.as_slice.result.now c.args.turned.now d d w) (c.chain-chained.ensures.plays d) in
-    let one = Costs-room m g.G.Gates.room law (λ r. Unit {0}) 1 (adder c.wire.result c.args.above c.chain-chained.result.1) _ _ _ (Costs-adder c.wire.result c.args.above c.chain-chained.result.1) c.add_bit-top.ensures in
+    let rest = c.args.rest.now in
+    let w = length rest in
+    let high = c.args.one in
+    let et = c.as_slice.ensures.value ∙ c.joined-taken.ensures ∙ ap (λ l. c.args.next ∷ l) c.front.ensures in
     let l2 = ap length c.as_slice-2.ensures.value in
-    let k = ap length c.front.ensures ∙ length-take-le (w - 1) c.args.rest.now (omega arith) in
+    let k = ap length c.front.ensures ∙ length-take-le (w - 1) rest (omega arith) in
     let l3 = ap length (c.as_slice-3.ensures.value ∙ c.joined-taken.ensures) in
     let l4 = ap length (c.as_slice-4.ensures.value ∙ c.joined-taken.ensures) in
-    (search rules, (omega (arith, l2, c.chain-chained.ensures.len), (omega (arith, l3, k, c.requires.some), (omega (arith, l4, k, c.requires.some), (c.requires.fits, omega (arith, left, one, c.requires.room))))))
+    let room = Affords-divide_choice g.G.Gates.calls c.args.next c.args.turned.now c.args.above high rest c.as_slice.result.now w c.args.gates.now c.requires.some (sym c.requires.same) et c.requires.room
+    c.chain-chained.result.0.items c.chain-chained.result.1 c.wire.result c.chain-chained.new.gates (c.wire.ensures high) (c.chain-chained.ensures.plays high)
+    c.as_slice-3.result.now c.as_slice-4.result.now c.as_slice-2.result.now c.add_bit-top.result c.add_bit-top.new.gates c.chain-chained.ensures.len
+    (c.as_slice-3.ensures.value ∙ sym c.as_slice.ensures.value) (c.as_slice-4.ensures.value ∙ sym c.as_slice.ensures.value) c.as_slice-2.ensures.value c.add_bit-top.ensures in
+    (search rules, (omega (arith, l2, c.chain-chained.ensures.len), (omega (arith, l3, k, c.requires.some), (omega (arith, l4, k, c.requires.some), (c.requires.fits, (high, room))))))
 
 pub returns : goal.returns
 returns g c =

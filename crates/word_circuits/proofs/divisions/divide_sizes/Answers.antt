@@ -4,31 +4,39 @@ use Rattle.gate_core.proofs.Playing.{Costs-room}
 use Rattle.word_circuits.specs.Divisions.{Divided, cond_negate, divide_circuit}
 use Rattle.word_circuits.proofs.Signing.{Costs-cond_negate}
 use Rattle.word_circuits.proofs.DividingPlays.{Plays-divide_sizes}
+use Rattle.word_circuits.proofs.Affording.{Affords-left, Affords-right, Affords-sizes}
 use Rattle.word_circuits.proofs.divisions.divide_sizes.Goals as goal
+
+pub cond_negate-left-requires : goal.cond_negate-left-requires
+cond_negate-left-requires g c =
+    let x = c.args.x.now in
+    let d = c.requires.room.0 in
+    (search rules, (c.requires.some, (c.requires.fits, (d, Affords-left g.G.Gates.calls (length x) x c.args.y.now d c.wire.result c.args.gates.now (c.wire.ensures d) c.requires.room.1))))
 
 pub cond_negate-right-requires : goal.cond_negate-right-requires
 cond_negate-right-requires g c =
     let x = c.args.x.now in
-    let w = length x in
-    let b = c.wire.result in
+    let y = c.args.y.now in
+    let d = c.requires.room.0 in
     let same = c.requires.same in
-    let left = Costs-room g.G.Gates.calls g.G.Gates.room g.met.G.Gates.counts.and_room (λ l. length l ≡ w) (w - 1) (cond_negate w b x b) _ _ _ (Costs-cond_negate w b x b c.requires.some) (c.cond_negate-left.ensures.plays b) in
-    (search rules, (omega (arith, same, c.requires.some), (omega (arith, same, c.requires.fits), omega (arith, left, same, c.requires.room))))
+    (search rules, (omega (arith, same, c.requires.some), (omega (arith, same, c.requires.fits),
+    (d, Affords-right g.G.Gates.calls (length x) (length y) x y d c.wire.result c.wire-2.result _ _ _ (c.wire.ensures d) (c.wire-2.ensures d) (sym same) (c.cond_negate-left.ensures.plays d) c.requires.room.1))))
 
 pub divide-requires : goal.divide-requires
 divide-requires g c =
+    let m = g.G.Gates.calls in
     let x = c.args.x.now in
     let y = c.args.y.now in
     let w = length x in
-    let b = c.wire.result in
+    let d = c.requires.room.0 in
     let v = c.wire-2.result in
     let same = c.requires.same in
-    let some : 0 < length y = omega (arith, same, c.requires.some) in
-    let left = Costs-room g.G.Gates.calls g.G.Gates.room g.met.G.Gates.counts.and_room (λ l. length l ≡ w) (w - 1) (cond_negate w b x b) _ _ _ (Costs-cond_negate w b x b c.requires.some) (c.cond_negate-left.ensures.plays b) in
-    let right = Costs-room g.G.Gates.calls g.G.Gates.room g.met.G.Gates.counts.and_room (λ l. length l ≡ length y) (length y - 1) (cond_negate (length y) v y v) _ _ _ (Costs-cond_negate (length y) v y v some) (c.cond_negate-right.ensures.plays v) in
     let l = ap length c.as_slice.ensures.value ∙ c.cond_negate-left.ensures.len in
     let k = ap length c.as_slice-2.ensures.value ∙ c.cond_negate-right.ensures.len in
-    (search rules, (omega (arith, l, c.requires.some), (l ∙ same ∙ sym k, (omega (arith, l, c.requires.fits), rw l (omega (arith, left, right, same, c.requires.room))))))
+    let right = subst (λ n. Plays m (cond_negate n v y d) c.cond_negate-left.new.gates c.cond_negate-right.result.items c.cond_negate-right.new.gates) (sym same) (c.cond_negate-right.ensures.plays d) in
+    let room = Affords-sizes m w _ x y d c.wire.result v c.cond_negate-left.result.items c.as_slice.result.now c.cond_negate-right.result.items c.as_slice-2.result.now _ _ _
+    (c.wire.ensures d) (c.wire-2.ensures d) c.as_slice.ensures.value c.as_slice-2.ensures.value l (c.cond_negate-left.ensures.plays d) right c.requires.room.1 in
+    (search rules, (omega (arith, l, c.requires.some), (l ∙ same ∙ sym k, (omega (arith, l, c.requires.fits), room))))
 
 pub returns : goal.returns
 returns g c =

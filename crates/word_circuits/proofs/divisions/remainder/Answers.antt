@@ -2,17 +2,23 @@ use Rattle.std.proofs.Common.{false, ◌++◌, length, arith, refl, sym, ap, ◌
 use Rattle.oc_values.specs.Integers.{wrap_bits, remainder}
 use Rattle.word_circuits.specs.Divisions.{remainder_circuit}
 use Rattle.word_circuits.specs.Fragments.Operation.{op_remainder}
-use Rattle.word_circuits.proofs.Calling.{width_pos, width_most, width_of, owed, carried_two, means_two, length-two, on_two}
+use Rattle.word_circuits.proofs.Calling.{width_pos, width_most, width_of, owed, carried_two, means_two, length-two, on_two, afforded_two, apart}
 use Rattle.word_circuits.proofs.DividingPairs.{Uniform-remainder, Counted-remainder}
 use Rattle.word_circuits.proofs.Signing.{integer-remainder}
 use Rattle.word_circuits.proofs.divisions.remainder.Goals as goal
 
 pub remainder_wires-requires : goal.remainder_wires-requires
 remainder_wires-requires g c =
-    let x = c.wires.ensures.value in
-    let y = c.wires-2.ensures.value in
-    let some = width_pos _ c.wires.ensures.width in
-    (search rules, (some, (ap length x ∙ c.requires.same ∙ ap length (sym y), (width_most _ c.wires.ensures.width, rw x c.requires.room))))
+    let x = c.args.x.now in
+    let y = c.args.y.now in
+    let w = length x in
+    let ex = c.wires.ensures.value in
+    let ey = c.wires-2.ensures.value in
+    let pos = width_pos w (width_of _ x ex c.wires.ensures.width) in
+    let same = ap length ex ∙ c.requires.same ∙ ap length (sym ey) in
+    let room = afforded_two g.G.Gates.calls g.G.Gates.made g.G.Gates.room g.met.G.Gates.counts (op_remainder c.args.signed) w (λ d u v. remainder_circuit c.args.signed (length u) u v d) _ x _ y _ (λ d. apart (λ u v. remainder_circuit c.args.signed w u v d) x y w refl)
+    ex ey refl pos refl (sym c.requires.same) (Uniform-remainder c.args.signed w) (Counted-remainder c.args.signed w pos) c.requires.room in
+    (search rules, (width_pos _ c.wires.ensures.width, (same, (width_most _ c.wires.ensures.width, room))))
 
 pub returns : goal.returns
 returns g c =

@@ -1,36 +1,47 @@
-use Rattle.std.proofs.Common.{◌≤◌, ◌-◌, ◌+◌, ◌*◌, length, arith, sym, ap, ◌∙◌, rules, subst}
-use Rattle.gate_core.specs.Circuit.{Plays}
+use Rattle.std.proofs.Common.{◌≤◌, ◌-◌, ◌+◌, ◌*◌, length, arith, sym, ap, ◌∙◌, rules, subst, get_or}
+use Rattle.gate_core.specs.Circuit.{Plays, Affords}
 use Rattle.gate_core.proofs.Playing.{Costs-room}
-use Rattle.word_circuits.specs.Divisions.{Divided, divide_sizes, cond_negate, remainder_circuit}
+use Rattle.word_circuits.specs.Divisions.{Divided, divide_sizes, cond_negate, remainder_circuit, divide_circuit}
 use Rattle.word_circuits.specs.Fragments.{ands_of, word_op}
 use Rattle.word_circuits.specs.Fragments.Operation.{op_remainder}
 use Rattle.word_circuits.proofs.Dividing.{Wide}
 use Rattle.word_circuits.proofs.Signing.{Costs-divide_sizes}
 use Rattle.word_circuits.proofs.DividingPlays.{Plays-remainder, Plays-signed_remainder}
+use Rattle.gate_core.proofs.Affording.{Affords-first}
+use Rattle.gate_core.specs.Circuit.Circuit.{give}
+use Rattle.word_circuits.proofs.Affording.{Affords-signed_remainder}
 use Rattle.word_circuits.proofs.divisions.remainder_wires.Goals as goal
 
 pub divide-requires : goal.divide-requires
 divide-requires g c =
-    let w = length c.args.x.now in
-    let room = subst (λ b. ands_of (word_op (op_remainder b)) w ≤ g.G.Gates.room c.args.gates.now) c.if-not-signed.true c.requires.room in
-    (search rules, (c.requires.some, (c.requires.same, (c.requires.fits, room))))
-
-pub divide_sizes-parts-requires : goal.divide_sizes-parts-requires
-divide_sizes-parts-requires g c =
-    let w = length c.args.x.now in
-    let room = subst (λ b. ands_of (word_op (op_remainder b)) w ≤ g.G.Gates.room c.args.gates.now) c.if-not-signed.false c.requires.room in
-    (search rules, (c.requires.some, (c.requires.same, (c.requires.fits, omega (arith, room)))))
-
-pub cond_negate-requires : goal.cond_negate-requires
-cond_negate-requires g c =
+    let m = g.G.Gates.calls in
     let x = c.args.x.now in
     let y = c.args.y.now in
     let w = length x in
-    let d = c.wire.result in
-    let room = subst (λ b. ands_of (word_op (op_remainder b)) w ≤ g.G.Gates.room c.args.gates.now) c.if-not-signed.false c.requires.room in
-    let left = Costs-room g.G.Gates.calls g.G.Gates.room g.met.G.Gates.counts.and_room (λ a. Wide w w a) (2 * (w - 1) + w * (2 * w + 1)) (divide_sizes w x y d) _ _ _ (Costs-divide_sizes w x y d c.requires.some) (c.divide_sizes-parts.ensures.plays d) in
+    let room = subst (λ b. Affords m (remainder_circuit b w x y c.requires.room.0) c.args.gates.now) c.if-not-signed.true c.requires.room.1 in
+    (search rules, (c.requires.some, (c.requires.same, (c.requires.fits, Affords-first m (divide_circuit w x y) (λ a. give a.rest) c.args.gates.now room))))
+
+pub divide_sizes-parts-requires : goal.divide_sizes-parts-requires
+divide_sizes-parts-requires g c =
+    let m = g.G.Gates.calls in
+    let x = c.args.x.now in
+    let y = c.args.y.now in
+    let w = length x in
+    let d = c.requires.room.0 in
+    let room = subst (λ b. Affords m (remainder_circuit b w x y d) c.args.gates.now) c.if-not-signed.false c.requires.room.1 in
+    (search rules, (c.requires.some, (c.requires.same, (c.requires.fits, (d, Affords-first m (divide_sizes w x y d) (λ a. cond_negate w (get_or x (w - 1) d) a.rest d) c.args.gates.now room)))))
+
+pub cond_negate-requires : goal.cond_negate-requires
+cond_negate-requires g c =
+    let m = g.G.Gates.calls in
+    let x = c.args.x.now in
+    let y = c.args.y.now in
+    let w = length x in
+    let d = c.requires.room.0 in
+    let room = subst (λ b. Affords m (remainder_circuit b w x y d) c.args.gates.now) c.if-not-signed.false c.requires.room.1 in
+    let a : Divided _ = record { quotient = c.divide_sizes-parts.result.0.items; rest = c.divide_sizes-parts.result.1.items } in
     let l = ap length c.as_slice.ensures.value ∙ c.divide_sizes-parts.ensures.rest in
-    (search rules, (omega (arith, l, c.requires.some), (omega (arith, l, c.requires.fits), omega (arith, l, left, room))))
+    (search rules, (omega (arith, l, c.requires.some), (omega (arith, l, c.requires.fits), (d, Affords-signed_remainder m w _ x y d c.wire.result a c.as_slice.result.now _ _ (c.wire.ensures d) c.as_slice.ensures.value l (c.divide_sizes-parts.ensures.plays d) room))))
 
 pub returns-then-not-signed : goal.returns-then-not-signed
 returns-then-not-signed g c =

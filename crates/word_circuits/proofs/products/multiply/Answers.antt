@@ -2,17 +2,23 @@ use Rattle.std.proofs.Common.{false, ◌*ℤ◌, ◌++◌, length, arith, refl, 
 use Rattle.oc_values.specs.Integers.{wrap_bits}
 use Rattle.word_circuits.specs.Products.{multiply_circuit}
 use Rattle.word_circuits.specs.Fragments.Operation.{op_multiply}
-use Rattle.word_circuits.proofs.Calling.{width_pos, width_most, width_of, owed, carried_two, means_two, length-two, on_two}
+use Rattle.word_circuits.proofs.Calling.{width_pos, width_most, width_of, owed, carried_two, means_two, length-two, on_two, afforded_two, apart}
 use Rattle.word_circuits.proofs.Multiplying.{Uniform-multiply, Counted-multiply}
 use Rattle.word_circuits.proofs.Multiplying.{integer-multiply}
 use Rattle.word_circuits.proofs.products.multiply.Goals as goal
 
 pub multiply_wires-requires : goal.multiply_wires-requires
 multiply_wires-requires g c =
-    let x = c.wires.ensures.value in
-    let y = c.wires-2.ensures.value in
-    let some = width_pos _ c.wires.ensures.width in
-    (search rules, (some, (ap length x ∙ c.requires.same ∙ ap length (sym y), (width_most _ c.wires.ensures.width, rw x c.requires.room))))
+    let x = c.args.x.now in
+    let y = c.args.y.now in
+    let w = length x in
+    let ex = c.wires.ensures.value in
+    let ey = c.wires-2.ensures.value in
+    let pos = width_pos w (width_of _ x ex c.wires.ensures.width) in
+    let same = ap length ex ∙ c.requires.same ∙ ap length (sym ey) in
+    let room = afforded_two g.G.Gates.calls g.G.Gates.made g.G.Gates.room g.met.G.Gates.counts op_multiply w (λ d u v. multiply_circuit (length u) u v d) _ x _ y _ (λ d. apart (λ u v. multiply_circuit w u v d) x y w refl)
+    ex ey refl pos refl (sym c.requires.same) (Uniform-multiply w) (Counted-multiply w pos) c.requires.room in
+    (search rules, (width_pos _ c.wires.ensures.width, (same, (width_most _ c.wires.ensures.width, room))))
 
 pub returns : goal.returns
 returns g c =

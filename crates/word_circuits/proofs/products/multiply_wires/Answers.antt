@@ -1,21 +1,34 @@
-use Rattle.std.proofs.Common.{◌≡◌, ◌-◌, ◌+◌, length, arith, ap, ◌∙◌, rules, subst}
-use Rattle.gate_core.specs.Circuit.{Plays}
+use Rattle.std.proofs.Common.{◌≡◌, ◌-◌, ◌+◌, length, arith, ap, ◌∙◌, rules, subst, sym, get_or}
+use Rattle.gate_core.specs.Circuit.{Plays, Affords, times}
 use Rattle.gate_core.proofs.Playing.{Costs-room, Plays-more}
 use Rattle.word_circuits.proofs.Multiplying.{Costs-part}
 use Rattle.word_circuits.proofs.Multiplying.{Plays-multiply}
-use Rattle.word_circuits.specs.Products.{multiply_step, multiply_row}
+use Rattle.word_circuits.specs.Products.{multiply_step, multiply_row, part}
 use Rattle.word_circuits.proofs.Multiplying.{Costs-rows, rows_left}
+use Rattle.word_circuits.proofs.Affording.{Affords-multiply_row}
+use Rattle.gate_core.proofs.Affording.{Affords-first}
 use Rattle.word_circuits.proofs.products.multiply_wires.Goals as goal
+
+pub part_wires-sum-requires : goal.part_wires-sum-requires
+part_wires-sum-requires g c =
+    let m = g.G.Gates.calls in
+    let x = c.args.x.now in
+    let y = c.args.y.now in
+    let w = length x in
+    let d = c.requires.room.0 in
+    let room = subst (λ z. Affords m (part x z d w) c.args.gates.now) (sym (c.wire.ensures d)) (Affords-first m (part x (get_or y 0 d) d w) (times (w - 1) (multiply_step w x y d)) c.args.gates.now c.requires.room.1) in
+    (search rules, (omega arith, (c.requires.fits, (d, room))))
 
 pub multiply_row-sum-requires : goal.multiply_row-sum-requires
 multiply_row-sum-requires g c =
+    let m = g.G.Gates.calls in
     let x = c.args.x.now in
-    let b = c.wire.result in
+    let y = c.args.y.now in
     let w = length x in
-    let lp = c.part_wires-sum.ensures.len in
-    let first = Costs-room g.G.Gates.calls g.G.Gates.room g.met.G.Gates.counts.and_room _ w _ _ _ _ (Costs-part x b b w) (c.part_wires-sum.ensures.plays b) in
-    let left = Costs-room g.G.Gates.calls g.G.Gates.room g.met.G.Gates.counts.and_room _ _ _ _ _ _ (Costs-rows x c.args.y.now b c.part_wires-sum.result.items w c.rows.j (omega (arith, c.rows-test.true)) lp) (c.rows.invariant.1 b) in
-    (search rules, (omega (arith, c.rows-test.true), (ap length c.as_slice.ensures.value ∙ c.rows.invariant.0, (c.requires.fits, rows_left w c.rows.j _ _ _ first left c.requires.room (omega (arith, c.rows-test.true))))))
+    let d = c.requires.room.0 in
+    let room = Affords-multiply_row m w x y d c.wire.result c.wire-in-rows.result c.rows.j c.part_wires-sum.result.items c.rows.sum.items c.as_slice.result.now _ _ _ (c.wire.ensures d) (c.wire-in-rows.ensures d) c.as_slice.ensures.value
+    c.rows-test.true (c.part_wires-sum.ensures.plays d) (c.rows.invariant.1 d) c.requires.room.1 in
+    (search rules, (omega (arith, c.rows-test.true), (ap length c.as_slice.ensures.value ∙ c.rows.invariant.0, (c.requires.fits, (d, room)))))
 
 pub rows-preserved : goal.rows-preserved
 rows-preserved g c =

@@ -2,13 +2,16 @@ use Rattle.std.proofs.Common.{get_or, arith, refl}
 use Rattle.gate_core.specs.Circuit.Circuit.{meet, give}
 use Rattle.gate_core.proofs.Playing.{Costs-room, Plays-row_more}
 use Rattle.word_circuits.proofs.Multiplying.{Costs-part}
+use Rattle.gate_core.proofs.Affording.{Affords-row}
+use Rattle.word_circuits.proofs.Affording.{of_one}
 use Rattle.word_circuits.proofs.products.part_wires.Goals as goal
 
 pub and-requires : goal.and-requires
 and-requires g c =
-    let d = c.args.b in
-    let left = Costs-room g.G.Gates.calls g.G.Gates.room g.met.G.Gates.counts.and_room _ c.places.i _ _ _ _ (Costs-part c.args.x.now c.args.b d c.places.i) (c.places.invariant.1 d) in
-    omega (arith, left, c.places-test.true, c.requires.room)
+    let m = g.G.Gates.calls in
+    let d = c.requires.room.0 in
+    let turn = Affords-row m (λ i. meet (get_or c.args.x.now i d) c.args.b (λ r. give r)) c.args.count c.places.i _ _ _ c.places-test.true c.requires.room.1 (c.places.invariant.1 d) in
+    of_one (λ x. m.has_room c.places.gates x c.args.b) _ _ (c.wire.ensures d) turn.0
 
 pub places-preserved : goal.places-preserved
 places-preserved g c = (

@@ -1,5 +1,5 @@
-use Rattle.std.proofs.Common.{◌^◌, length, arith, ap, ◌∙◌, rules, subst}
-use Rattle.gate_core.specs.Circuit.{Plays}
+use Rattle.std.proofs.Common.{◌^◌, length, arith, ap, ◌∙◌, rules, subst, sym}
+use Rattle.gate_core.specs.Circuit.{Plays, Affords}
 use Rattle.word_circuits.specs.Choices.{choose, moved}
 use Rattle.std.proofs.lemmas.Nat.{one_shl}
 use Rattle.word_circuits.proofs.shifts.shift_step.Goals as goal
@@ -11,8 +11,15 @@ moved-other-requires g c =
 
 pub choose_wires-requires : goal.choose_wires-requires
 choose_wires-requires g c =
+    let m = g.G.Gates.calls in
+    let x = c.args.x.now in
+    let w = length x in
+    let z = c.args.zero in
     let l = ap length c.as_slice.ensures.value in
-    (search rules, (omega arith, (omega (arith, l, c.moved-other.ensures.len), (omega arith, (c.requires.fits, c.requires.room)))))
+    let e = one_shl c.args.k 64 (omega (arith, c.requires.small)) in
+    let other = c.as_slice.ensures.value ∙ c.moved-other.ensures.items ∙ ap (λ k. moved c.args.left w k c.moved_in-filler.result x) e ∙ ap (λ f. moved c.args.left w (2 ^ c.args.k) f x) c.moved_in-filler.ensures in
+    let room = subst (λ l. Affords m (choose c.args.chosen x l x z w) c.args.gates.now) (sym other) c.requires.room in
+    (search rules, (omega arith, (omega (arith, l, c.moved-other.ensures.len), (omega arith, (c.requires.fits, (z, room))))))
 
 pub returns : goal.returns
 returns g c =

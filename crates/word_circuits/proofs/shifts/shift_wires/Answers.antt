@@ -6,6 +6,7 @@ use Rattle.word_circuits.specs.Choices.{shift_step}
 use Rattle.word_circuits.proofs.Calling.{width_pos, width_most}
 use Rattle.word_circuits.proofs.ChoosingPairs.{Costs-shift_steps}
 use Rattle.word_circuits.proofs.Shifting.{place_within, log2-small, steps_left, Plays-shift_step, Plays-shift_word}
+use Rattle.word_circuits.proofs.Affording.{Affords-shift_step}
 use Rattle.word_circuits.proofs.shifts.shift_wires.Goals as goal
 
 pub joined-shifted-requires : goal.joined-shifted-requires
@@ -29,16 +30,19 @@ wire-chosen-requires g c =
 
 pub shift_step-shifted-requires : goal.shift_step-shifted-requires
 shift_step-shifted-requires g c =
+    let m = g.G.Gates.calls in
     let x = c.args.x.now in
     let w = length x in
-    let m = g.G.Gates.calls in
+    let left = c.args.left in
+    let signed = c.args.signed in
+    let a = c.args.amount.now in
     let h = within w c.rounds.k c.places-k-end.result c.requires.width c.places-k-end.ensures.value c.rounds-test.true in
     let some = width_pos w c.requires.width in
     let most = width_most w c.requires.width in
-    let lx = ap length c.joined-shifted.ensures ∙ ap length (append-nil x) in
     let l = ap length c.as_slice.ensures.value ∙ c.rounds.invariant.0 in
-    let left = Costs-room m g.G.Gates.room g.met.G.Gates.counts.and_room _ (c.rounds.k * w) _ _ _ _ (Costs-shift_steps c.args.left c.args.signed w c.args.amount.now c.known-zero.result c.joined-shifted.result.items c.rounds.k lx) c.rounds.invariant.1 in
-    (search rules, (omega (arith, l, some), (omega (arith, l, most), (omega (arith, l, h.0), (h.3, rw l (steps_left w (log2 w) c.rounds.k _ _ left c.requires.room h.2))))))
+    let room = Affords-shift_step m left signed w a c.rounds.k c.joined-shifted.result.items x c.rounds.shifted.items c.as_slice.result.now c.known-zero.result c.wire-chosen.result _ _
+    c.known-zero.ensures (c.joined-shifted.ensures ∙ append-nil x) (c.wire-chosen.ensures c.known-zero.result) c.as_slice.ensures.value l h.2 c.rounds.invariant.1 c.requires.room in
+    (search rules, (omega (arith, l, some), (omega (arith, l, most), (omega (arith, l, h.0), (h.3, room)))))
 
 pub rounds-preserved : goal.rounds-preserved
 rounds-preserved g c =

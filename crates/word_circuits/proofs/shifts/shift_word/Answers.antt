@@ -3,16 +3,23 @@ use Rattle.oc_values.specs.Integers.{wrap_bits, shift_amount}
 use Rattle.word_circuits.specs.Integers.{shift}
 use Rattle.word_circuits.specs.Choices.{shift_word_circuit}
 use Rattle.word_circuits.specs.Fragments.Operation.{op_shift_word}
-use Rattle.word_circuits.proofs.Calling.{width_pos, width_of, owed, carried_two, means_two, length-two, on_two}
+use Rattle.word_circuits.proofs.Calling.{width_pos, width_of, owed, carried_two, means_two, length-two, on_two, afforded_two, apart}
 use Rattle.word_circuits.proofs.Selecting.{Uniform-shift_word, Counted-shift_word}
 use Rattle.word_circuits.proofs.Selecting.{integer-shift_two}
 use Rattle.word_circuits.proofs.shifts.shift_word.Goals as goal
 
 pub shift_wires-requires : goal.shift_wires-requires
 shift_wires-requires g c =
-    let x = c.wires.ensures.value in
-    let y = c.wires-2.ensures.value in
-    (search rules, (c.wires.ensures.width, (ap length x ∙ c.requires.same ∙ ap length (sym y), rw x c.requires.room)))
+    let x = c.args.x.now in
+    let y = c.args.amount.now in
+    let w = length x in
+    let ex = c.wires.ensures.value in
+    let ey = c.wires-2.ensures.value in
+    let pos = width_pos w (width_of _ x ex c.wires.ensures.width) in
+    let same = ap length ex ∙ c.requires.same ∙ ap length (sym ey) in
+    let room = afforded_two g.G.Gates.calls g.G.Gates.made g.G.Gates.room g.met.G.Gates.counts (op_shift_word c.args.left c.args.signed) w (λ d u v. shift_word_circuit c.args.left c.args.signed (length u) u v) _ x _ y _ (λ d. apart (λ u v. shift_word_circuit c.args.left c.args.signed w u v) x y w refl)
+    ex ey refl pos refl (sym c.requires.same) (Uniform-shift_word c.args.left c.args.signed w) (Counted-shift_word c.args.left c.args.signed w) c.requires.room in
+    (search rules, (c.wires.ensures.width, (same, room.1)))
 
 pub returns : goal.returns
 returns g c =

@@ -1,10 +1,10 @@
 use Rattle.std.proofs.Common.{◌≡◌, neg_ℤ, length, arith, refl, sym, ap, ◌∙◌, rules, replicate, subst}
 use Rattle.std.proofs.lemmas.List.{length-replicate}
-use Rattle.gate_core.specs.Circuit.{Plays}
+use Rattle.gate_core.specs.Circuit.{Plays, Affords}
 use Rattle.oc_values.specs.Integers.{wrap_bits}
 use Rattle.word_circuits.specs.Chains.{negate_circuit, subtract_circuit}
 use Rattle.word_circuits.specs.Fragments.Operation.{op_negate}
-use Rattle.word_circuits.proofs.Calling.{width_pos, width_most, width_of, carried_one, owed, means_one, on_one}
+use Rattle.word_circuits.proofs.Calling.{width_pos, width_most, width_of, carried_one, owed, means_one, on_one, afforded_one}
 use Rattle.word_circuits.proofs.Summing.{Uniform-negate, Counted-negate}
 use Rattle.word_circuits.proofs.Totals.{integer-negate}
 use Rattle.word_circuits.proofs.AddingPlays.{Plays-negate}
@@ -15,11 +15,22 @@ copies-zeros-requires g c = (search rules, width_most _ c.width.ensures.width)
 
 pub subtract_wires-requires : goal.subtract_wires-requires
 subtract_wires-requires g c =
-    let x = c.wires.ensures.value in
-    let some = width_pos c.width.result c.width.ensures.width in
-    let lz = ap length (c.as_slice.ensures.value ∙ c.copies-zeros.ensures) ∙ length-replicate c.width.result c.known-zero.result in
-    let most = width_most c.width.result c.width.ensures.width in
-    (search rules, (omega (arith, lz, some), (lz ∙ c.width.ensures.value ∙ ap length (sym x), (omega (arith, lz, most), omega (arith, lz, c.width.ensures.value, c.requires)))))
+    let x = c.args.x.now in
+    let w = length x in
+    let ex = c.wires.ensures.value in
+    let pos = width_pos w (width_of _ x ex c.wires.ensures.width) in
+    let room = afforded_one g.G.Gates.calls g.G.Gates.made g.G.Gates.room g.met.G.Gates.counts op_negate w (λ d u. negate_circuit w u) c.wires.result.now x c.args.gates.now (λ d. refl) ex pos refl (Uniform-negate w) (Counted-negate w pos) c.requires in
+    let m = g.G.Gates.calls in
+    let s = c.args.gates.now in
+    let low = c.known-zero.result in
+    let u = c.wires.result.now in
+    let zs = c.as_slice.result.now in
+    let ez : zs ≡ replicate w low = c.as_slice.ensures.value ∙ c.copies-zeros.ensures ∙ ap (λ n. replicate n low) c.width.ensures.value in
+    let lz : length zs ≡ w = ap length ez ∙ length-replicate w low in
+    let h1 = subst (λ v. Affords m (subtract_circuit w (replicate w v) u) s) (sym c.known-zero.ensures) room.1 in
+    let h2 = subst (λ l. Affords m (subtract_circuit w l u) s) (sym ez) h1 in
+    let h3 = subst (λ n. Affords m (subtract_circuit n zs u) s) (sym lz) h2 in
+    (search rules, (omega (arith, lz, pos), (lz ∙ ap length (sym ex), (omega (arith, lz, width_most c.width.result c.width.ensures.width, c.width.ensures.value), h3))))
 
 pub returns : goal.returns
 returns g c =
