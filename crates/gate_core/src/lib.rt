@@ -17,6 +17,3 @@ pub use laws::{
     gates_join, operands_are_put_in, operands_are_read, readings_join, room_goes_on, room_suffices,
     wires_stand_for_truth,
 };
-
-#[cfg(test)]
-mod tests;

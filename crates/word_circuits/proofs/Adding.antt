@@ -8,7 +8,7 @@ use Rattle.gate_core.proofs.Relating.{truth, Costs}
 use Rattle.gate_core.specs.Circuit.Circuit.{give, flip}
 use Rattle.gate_core.proofs.Playing.{truth-then, truth-times, Costs-then, Costs-times, Costs-row}
 use Rattle.word_circuits.specs.Integers.{bit, value}
-use Rattle.word_circuits.specs.Chains.{Carried, adder, chain_step, chain, last_sum, sums, add_circuit, flips, subtract_circuit}
+use Rattle.word_circuits.specs.Chains.{Carried, chain_step, chain, last_sum, sums, add_circuit, flips, subtract_circuit}
 use Rattle.word_circuits.proofs.Values.{value-push, value-more, adder-bits, value-below}
 
 -- what is known after n places
@@ -63,9 +63,6 @@ Sums-mod w total s h =
     sym (mod-mul-add (bit h.carry) (2 ^ w) (value s) v) ∙ ap (λ n. n % 2 ^ w) e
 
 -- each place makes one AND
-pub Costs-adder : {W : Type 0} (x y c : W) → Costs (λ (r : W × W). Unit {0}) 1 (adder x y c)
-Costs-adder x y c = λ p q. (0, refl, λ both s e. (refl, tt))
-
 pub Costs-chain : {W : Type 0} (x y : List W) (d c : W) (n : ℕ) → Costs (λ (b : Carried W). length b.sums ≡ n) n (chain x y d c n)
 Costs-chain {W} x y d c n =
     Costs-times (λ i (b : Carried W). length b.sums ≡ i) (λ i. i) (chain_step x y d) (record { sums = []; carry = c }) n 1 refl (λ i. omega arith) refl

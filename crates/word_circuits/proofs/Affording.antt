@@ -1,5 +1,5 @@
 -- Room for the parts of circuits.
-use Rattle.std.proofs.Common.{◌≡◌, ℕ, zero, suc, ◌+◌, ◌-◌, ◌^◌, ◌<◌, Bool, true, false, List, [], ◌∷◌, ◌++◌, length, get_or, take, drop, replicate, refl, ap, ◌∙◌, sym, arith, subst}
+use Rattle.std.proofs.Common.{◌≡◌, ℕ, zero, suc, ◌+◌, ◌-◌, ◌^◌, ◌<◌, Bool, true, false, List, [], ◌∷◌, ◌++◌, length, get_or, take, drop, replicate, ap, ◌∙◌, sym, arith, subst}
 use Rattle.std.proofs.lemmas.List.{take_at, get_or_push}
 use Rattle.gate_core.specs.Circuit.{Circuit, Calls, Plays, Affords, then, times}
 use Rattle.gate_core.specs.Circuit.Circuit.{give, known, flip, join, meet}

@@ -6,7 +6,7 @@ use Rattle.gate_core.specs.Circuit.{Circuit, Calls, Plays, Affords}
 use Rattle.gate_core.proofs.Relating.{truth, Same, Costs}
 use Rattle.gate_core.specs.Circuit.Circuit.{give, known, flip, join, meet}
 use Rattle.gate_core.specs.Relations.{All2}
-use Rattle.gate_core.specs.Laws.{Laws, Counts, Rises}
+use Rattle.gate_core.specs.Laws.{Laws, Counts}
 use Rattle.gate_core.specs.GateList.{PlaysGates, numbers}
 use Rattle.gate_core.proofs.Playing.{Counts-all, Plays-stands}
 use Rattle.gate_core.proofs.Pairs.{All2-up, All2-append, All2-length}

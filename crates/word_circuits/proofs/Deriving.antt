@@ -1,5 +1,5 @@
 -- Comparisons that are others, turned.
-use Rattle.std.proofs.Common.{◌≡◌, ℕ, ◌-◌, ◌<◌, Bool, true, false, not, ℤ, ◌-ℤ◌, int_lt, List, [], ◌∷◌, ◌++◌, length, take, drop, refl, ap, ◌∙◌, sym, arith, subst, inr}
+use Rattle.std.proofs.Common.{◌≡◌, ℕ, ◌-◌, ◌<◌, Bool, true, false, not, ◌-ℤ◌, int_lt, List, [], ◌∷◌, ◌++◌, length, take, drop, refl, ap, ◌∙◌, sym, arith, inr}
 use Rattle.gate_core.specs.Circuit.{Circuit, then}
 use Rattle.gate_core.proofs.Relating.{truth, Same, Costs}
 use Rattle.gate_core.specs.Relations.{All2}
@@ -9,7 +9,7 @@ use Rattle.oc_values.specs.Integers.{number_of, is_zero}
 use Rattle.word_circuits.specs.Integers.{number}
 use Rattle.word_circuits.specs.Chains.{less_circuit, equal_circuit, to_bool_circuit, other_word}
 use Rattle.word_circuits.specs.Fragments.{circuit}
-use Rattle.word_circuits.specs.Fragments.Operation.{op_less, op_less_equal, op_greater, op_greater_equal, op_equal, op_unequal, op_to_bool, op_is_zero, op_copy}
+use Rattle.word_circuits.specs.Fragments.Operation.{op_less_equal, op_greater, op_greater_equal, op_unequal, op_is_zero, op_copy}
 use Rattle.word_circuits.proofs.Calling.{Uniform, Counted, apart}
 use Rattle.word_circuits.proofs.AddingPairs.{Same-less, Same-equal, Same-to_bool}
 use Rattle.word_circuits.proofs.Comparing.{Costs-less, Costs-equal, Costs-to_bool}

@@ -2,7 +2,7 @@
 use Rattle.std.proofs.Common.{◌≡◌, ℕ, zero, suc, ◌+◌, ◌*◌, ◌/◌, ◌%◌, ◌-◌, ◌^◌, ◌<◌, ◌≤◌, Bool, true, false, cond, List, [], ◌∷◌, ◌++◌, length, get_or, take, drop, replicate, refl, ap, ◌∙◌, sym, arith, subst, ◌⊎◌, inl, inr}
 use Rattle.std.proofs.Math.Nat.{pow-suc, pow-le-pow_right}
 use Rattle.std.proofs.lemmas.List.{length_push, length-take-le, length-drop, drop_more, drop_all, length-replicate}
-use Rattle.std.proofs.lemmas.Nat.{div-mul-add, mod-mul-add, mul-le}
+use Rattle.std.proofs.lemmas.Nat.{div-mul-add, mod-mul-add}
 use Rattle.gate_core.specs.Circuit.{times}
 use Rattle.gate_core.proofs.Relating.{truth, Costs}
 use Rattle.gate_core.proofs.Playing.{truth-then, truth-times, Costs-then, Costs-times}
@@ -169,9 +169,3 @@ Costs-divide {W} w x y = λ low high.
     Costs-then (λ (ws : List W). length ws ≡ w + 1) (Wide w w) 0 (w * (2 * w + 1)) (w * (2 * w + 1))
     (flips (y ++ low ∷ []) high (w + 1)) _ (omega arith) (Costs-flips (y ++ low ∷ []) high (w + 1))
     (λ ny e. Costs-divide_steps x ny high (replicate w low) w w (length-replicate w low))
-
--- the room for one bit more
-pub bits_left : (w i old now : ℕ) → old ≤ now + i * (2 * w + 1) → w * (2 * w + 1) ≤ old → i < w → 2 * w + 1 ≤ now
-bits_left w i old now h k lt =
-    let q : (i + 1) * (2 * w + 1) ≤ w * (2 * w + 1) = mul-le (i + 1) (2 * w + 1) w (2 * w + 1) (omega (arith, lt)) (omega arith) in
-    omega (arith, h, k, q)

@@ -167,22 +167,11 @@ rows_all (suc v) h =
     let k = rows_sum (suc v) v (omega arith) in
     rw e (omega (arith, k))
 
-rows_up : (w j n : ℕ) → rows_cost w j ≤ rows_cost w (j + n)
-rows_up w j zero = let e : j + 0 ≡ j = omega arith in rw e (omega arith)
-rows_up w j (suc n) = let e : j + suc n ≡ suc (j + n) = omega arith in let k = rows_up w j n in rw e (omega (arith, k))
-
 pub Costs-multiply : {W : Type 0} (w : ℕ) (x y : List W) (d : W) → 0 < w → Costs (λ (l : List W). length l ≡ w) (w * w - w + 1) (multiply_circuit w x y d)
 Costs-multiply {W} w x y d some =
     let count : w * w - w + 1 ≡ w + rows_cost w (w - 1) = rows_all w some in
     Costs-then (λ (l : List W). length l ≡ w) (λ (l : List W). length l ≡ w) w (rows_cost w (w - 1)) (w * w - w + 1) (part x (get_or y 0 d) d w) _ count
     (Costs-part x (get_or y 0 d) d w) (λ p e. Costs-rows x y d p w (w - 1) (omega arith) e)
-
--- the room for one row more
-pub rows_left : (w j old mid now : ℕ) → old ≤ mid + w → mid ≤ now + rows_cost w j → w * w - w + 1 ≤ old → j + 1 < w → 2 * (w - (j + 1)) - 1 ≤ now
-rows_left w j old mid now h k room lt =
-    let all = rows_all w (omega (arith, lt)) in
-    let up : rows_cost w (suc j) ≤ rows_cost w (w - 1) = (let e : suc j + (w - 1 - suc j) ≡ w - 1 = omega (arith, lt) in subst (λ n. rows_cost w (suc j) ≤ rows_cost w n) e (rows_up w (suc j) (w - 1 - suc j))) in
-    omega (arith, h, k, room, all, up)
 
 module _ {V W : Type 0} where
   pub Same-part : (R : V → W → Type 0) (x : List V) (x' : List W) (b d : V) (b' d' : W) (n : ℕ) → All2 R x x' → R b b' → R d d' → Same R All2 (part x b d n) (part x' b' d' n)

@@ -1,23 +1,19 @@
 -- Every operation's gates give the language's integer.
-use Rattle.std.proofs.Common.{◌≡◌, ℕ, zero, suc, ◌+◌, ◌-◌, ◌<◌, ◌%◌, Bool, true, false, cond, IsTrue, ℤ, List, [], ◌∷◌, ◌++◌, length, refl, ap, ◌∙◌, sym, arith, subst}
-use Rattle.std.proofs.lemmas.List.{length-append}
-use Rattle.gate_core.specs.Circuit.{Circuit}
-use Rattle.gate_core.proofs.Relating.{truth, Costs}
+use Rattle.std.proofs.Common.{◌≡◌, ℕ, zero, suc, ◌+◌, ◌<◌, Bool, true, false, cond, IsTrue, ℤ, List, [], ◌∷◌, ◌++◌, length, refl, ap, ◌∙◌, sym, arith, subst}
+use Rattle.gate_core.proofs.Relating.{truth}
 use Rattle.gate_core.specs.Relations.{All2}
 use Rattle.gate_core.specs.GateList.{numbers}
-use Rattle.gate_core.specs.Wiring.{truth_of, ands_in}
+use Rattle.gate_core.specs.Wiring.{truth_of}
 use Rattle.gate_core.proofs.Playing.{truth-costs}
 use Rattle.gate_core.proofs.Truths.{truth-gates, ands-gates}
 use Rattle.oc_values.specs.declared.integers.IntKind.{IntKind}
 use Rattle.oc_values.specs.declared.integers.IntKind.TheVariants.{Bool as KBool, I8, U8, I16, U16, I32, U32, I64, U64}
-use Rattle.oc_values.specs.declared.integers.BinaryOp.{BinaryOp}
 use Rattle.oc_values.specs.declared.integers.BinaryOp.TheVariants.{Add, Sub, Mul, Div, Rem, Shl, Shr, And, Or, Xor, Less, LessEq, Greater, GreaterEq, Equal, NotEqual}
-use Rattle.oc_values.specs.declared.integers.OneOp.{OneOp}
 use Rattle.oc_values.specs.declared.integers.OneOp.TheVariants.{Neg, Plus, Not, Flip}
 use Rattle.oc_values.specs.Integers.{width, is_signed}
 use Rattle.word_circuits.specs.Widths.{is_width}
 use Rattle.word_circuits.specs.Integers.{number}
-use Rattle.word_circuits.specs.Operators.{answered, BinaryMeans, UnaryMeans, ConversionMeans, ChoiceMeans, KnownShiftMeans, HasAnds, HasWidth}
+use Rattle.word_circuits.specs.Operators.{BinaryMeans, UnaryMeans, ConversionMeans, ChoiceMeans, KnownShiftMeans, HasAnds, HasWidth}
 use Rattle.word_circuits.specs.Fragments.{Operation, inputs, outputs, circuit, fragment, ands_of, word_op}
 use Rattle.word_circuits.specs.Fragments.Operation.{op_add, op_subtract, op_negate, op_multiply, op_quotient, op_remainder, op_less, op_less_equal, op_greater, op_greater_equal, op_equal, op_unequal, op_to_bool, op_is_zero, op_meet, op_either, op_differ, op_flip, op_select, op_shift_known, op_shift_word, op_resize, op_copy}
 use Rattle.word_circuits.proofs.Calling.{Uniform, Counted, width_pos, length-two}

@@ -5,7 +5,7 @@ use Rattle.std.proofs.Math.Nat.{pow-suc, pow-le-pow_right, div-le_self}
 use Rattle.std.proofs.lemmas.Int.{ints}
 use Rattle.std.proofs.lemmas.Bool.{lt-ltb, le-ltb, eqb-true}
 use Rattle.std.proofs.lemmas.List.{take-append-drop, take_all, length-take-le, length-drop, length-replicate, append-nil}
-use Rattle.std.proofs.lemmas.Nat.{pow_pos, pow-add, div-mul-add, mod-mul-add, mul-mod_first, mul-mod_second, shr-shr, shl_below, mul-le, mod-pow-add, mod_low, mod_below}
+use Rattle.std.proofs.lemmas.Nat.{pow_pos, pow-add, div-mul-add, mod-mul-add, mul-mod_first, mul-mod_second, shr-shr, shl_below, mod-pow-add, mod_low, mod_below}
 use Rattle.gate_core.specs.Circuit.{Calls, Plays, times}
 use Rattle.gate_core.proofs.Relating.{truth}
 use Rattle.gate_core.proofs.Playing.{truth-times}
@@ -388,9 +388,3 @@ pub Plays-shift_word : {S W : Type 0} (m : Calls S W) (left signed : Bool) (w n 
 Plays-shift_word m left signed w n x0 x a z r s t ez en ex p =
     subst (λ y. Plays m (times (log2 w) (shift_step left signed w a y) x) s r t) ez
     (subst (λ k. Plays m (times k (shift_step left signed w a z) x) s r t) en (subst (λ y. Plays m (times n (shift_step left signed w a z) y) s r t) ex p))
-
--- the room for one place more
-pub steps_left : (w n k old now : ℕ) → old ≤ now + k * w → w * n ≤ old → k < n → w ≤ now
-steps_left w n k old now h r lt =
-    let q : (k + 1) * w ≤ n * w = mul-le (k + 1) w n w (omega (arith, lt)) (omega arith) in
-    omega (arith, h, r, q)

@@ -33,6 +33,3 @@ pub use products::multiply;
 pub use shifts::{resize, shift_known, shift_word};
 pub use sums::{add, negate, subtract};
 pub use word::Word;
-
-#[cfg(test)]
-mod tests;

@@ -1,7 +1,6 @@
 use Rattle.std.proofs.Common.{arith, [], ◌∷◌, ◌++◌, get_or}
 use Rattle.word_circuits.specs.Chains.{chain_step, adder, Carried}
-use Rattle.gate_core.proofs.Playing.{Plays-more, Costs-room}
-use Rattle.word_circuits.proofs.Adding.{Costs-chain}
+use Rattle.gate_core.proofs.Playing.{Plays-more}
 use Rattle.word_circuits.proofs.AddingPlays.{Plays-chain_step}
 use Rattle.gate_core.proofs.Affording.{Affords-turn, Affords-first}
 use Rattle.gate_core.specs.Circuit.Circuit.{give}

@@ -1,7 +1,6 @@
 use Rattle.std.proofs.Common.{get_or, arith}
 use Rattle.word_circuits.specs.Choices.{choose_bit}
-use Rattle.word_circuits.proofs.Choosing.{Costs-choose}
-use Rattle.gate_core.proofs.Playing.{Plays-row_more, Costs-room}
+use Rattle.gate_core.proofs.Playing.{Plays-row_more}
 use Rattle.gate_core.proofs.Affording.{Affords-row}
 use Rattle.word_circuits.proofs.Affording.{of_three}
 use Rattle.gate_core.specs.Circuit.{Affords}

@@ -1,7 +1,6 @@
 use Rattle.std.proofs.Common.{get_or, arith, length}
 use Rattle.word_circuits.specs.Choices.{either_bit}
-use Rattle.word_circuits.proofs.Choosing.{Costs-either}
-use Rattle.gate_core.proofs.Playing.{Plays-row_more, Costs-room}
+use Rattle.gate_core.proofs.Playing.{Plays-row_more}
 use Rattle.gate_core.proofs.Affording.{Affords-row}
 use Rattle.word_circuits.proofs.choices.either_wires.Goals as goal
 

@@ -1,7 +1,6 @@
 use Rattle.std.proofs.Common.{get_or, arith, refl, length}
 use Rattle.gate_core.specs.Circuit.Circuit.{meet, give}
-use Rattle.word_circuits.proofs.Choosing.{Costs-meet}
-use Rattle.gate_core.proofs.Playing.{Plays-row_more, Costs-room}
+use Rattle.gate_core.proofs.Playing.{Plays-row_more}
 use Rattle.gate_core.proofs.Affording.{Affords-row}
 use Rattle.word_circuits.proofs.Affording.{of_two}
 use Rattle.word_circuits.proofs.choices.meet_wires.Goals as goal

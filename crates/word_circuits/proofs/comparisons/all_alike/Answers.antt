@@ -1,9 +1,8 @@
-use Rattle.std.proofs.Common.{◌≡◌, ◌-◌, ◌+◌, length, arith, refl, [], ◌∷◌}
+use Rattle.std.proofs.Common.{◌≡◌, ◌-◌, ◌+◌, length, arith, [], ◌∷◌}
 use Rattle.gate_core.specs.Circuit.{then}
 use Rattle.gate_core.specs.Circuit.Circuit.{meet, give}
-use Rattle.gate_core.proofs.Playing.{Plays-more, Costs-room}
+use Rattle.gate_core.proofs.Playing.{Plays-more}
 use Rattle.word_circuits.specs.Chains.{alike}
-use Rattle.word_circuits.proofs.Comparing.{Costs-rest}
 use Rattle.word_circuits.proofs.AddingPlays.{Plays-conjunction_step, Plays-conjunction, Plays-alike, Plays-equal}
 use Rattle.word_circuits.proofs.Affording.{Affords-conjunction}
 use Rattle.word_circuits.proofs.comparisons.all_alike.Goals as goal

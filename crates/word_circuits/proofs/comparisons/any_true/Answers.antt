@@ -1,9 +1,8 @@
-use Rattle.std.proofs.Common.{◌≡◌, ◌-◌, ◌+◌, length, arith, refl, [], ◌∷◌}
+use Rattle.std.proofs.Common.{◌≡◌, ◌-◌, ◌+◌, length, arith, [], ◌∷◌}
 use Rattle.gate_core.specs.Circuit.{then}
 use Rattle.gate_core.specs.Circuit.Circuit.{meet, give, flip}
-use Rattle.gate_core.proofs.Playing.{Plays-more, Costs-room}
+use Rattle.gate_core.proofs.Playing.{Plays-more}
 use Rattle.word_circuits.specs.Chains.{other}
-use Rattle.word_circuits.proofs.Comparing.{Costs-rest}
 use Rattle.word_circuits.proofs.AddingPlays.{Plays-conjunction_step, Plays-conjunction, Plays-other, Plays-to_bool}
 use Rattle.word_circuits.proofs.Affording.{Affords-conjunction}
 use Rattle.word_circuits.proofs.comparisons.any_true.Goals as goal

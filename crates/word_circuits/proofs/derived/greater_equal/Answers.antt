@@ -1,7 +1,7 @@
-use Rattle.std.proofs.Common.{false, not, int_lt, ◌-ℤ◌, [], ◌∷◌, ◌++◌, length, arith, refl, sym, ap, ◌∙◌, rules, subst}
-use Rattle.gate_core.specs.Circuit.{Plays, then}
+use Rattle.std.proofs.Common.{false, not, int_lt, ◌++◌, length, arith, refl, sym, ap, ◌∙◌, rules}
+use Rattle.gate_core.specs.Circuit.{then}
 use Rattle.gate_core.proofs.Playing.{Plays-then}
-use Rattle.oc_values.specs.Integers.{number_of, is_zero}
+use Rattle.oc_values.specs.Integers.{number_of}
 use Rattle.word_circuits.specs.Chains.{less_circuit, other_word}
 use Rattle.word_circuits.specs.Fragments.Operation.{op_greater_equal}
 use Rattle.word_circuits.proofs.Calling.{width_pos, width_most, width_of, owed, carried_two, means_two, length-two, on_two, afforded_two, apart}

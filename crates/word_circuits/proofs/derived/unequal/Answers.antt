@@ -1,10 +1,10 @@
-use Rattle.std.proofs.Common.{false, not, int_lt, ◌-ℤ◌, [], ◌∷◌, ◌++◌, length, arith, refl, sym, ap, ◌∙◌, rules, subst}
-use Rattle.gate_core.specs.Circuit.{Plays, then}
+use Rattle.std.proofs.Common.{false, not, ◌-ℤ◌, ◌++◌, length, arith, refl, sym, ap, ◌∙◌}
+use Rattle.gate_core.specs.Circuit.{then}
 use Rattle.gate_core.proofs.Playing.{Plays-then}
 use Rattle.oc_values.specs.Integers.{number_of, is_zero}
 use Rattle.word_circuits.specs.Chains.{equal_circuit, other_word}
 use Rattle.word_circuits.specs.Fragments.Operation.{op_unequal}
-use Rattle.word_circuits.proofs.Calling.{width_pos, width_most, width_of, owed, carried_two, means_two, length-two, on_two, afforded_two, apart}
+use Rattle.word_circuits.proofs.Calling.{width_pos, width_of, owed, carried_two, means_two, length-two, on_two, afforded_two, apart}
 use Rattle.word_circuits.proofs.Deriving.{Uniform-unequal, Counted-unequal, integer-unequal}
 use Rattle.gate_core.proofs.Affording.{Affords-first}
 use Rattle.word_circuits.proofs.derived.unequal.Goals as goal

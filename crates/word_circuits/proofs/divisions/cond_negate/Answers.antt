@@ -1,8 +1,7 @@
 use Rattle.std.proofs.Common.{ap, ◌∙◌, ◌≡◌, ◌-◌, length, arith, []}
-use Rattle.gate_core.proofs.Playing.{Plays-more, Costs-room}
+use Rattle.gate_core.proofs.Playing.{Plays-more}
 use Rattle.word_circuits.specs.Chains.{Carried}
 use Rattle.word_circuits.specs.Divisions.{negate_step, last_negated}
-use Rattle.word_circuits.proofs.Signing.{Costs-negate_steps}
 use Rattle.word_circuits.proofs.DividingPlays.{Plays-negate_step, Plays-cond_negate}
 use Rattle.gate_core.proofs.Affording.{Affords-first, Affords-turn}
 use Rattle.gate_core.specs.Circuit.{times}

@@ -1,9 +1,7 @@
-use Rattle.std.proofs.Common.{◌≡◌, ◌+◌, ◌*◌, [], ◌∷◌, ◌++◌, length, arith, sym, ap, ◌∙◌, rules, subst}
-use Rattle.std.proofs.lemmas.List.{length-replicate}
+use Rattle.std.proofs.Common.{◌≡◌, [], ◌∷◌, ◌++◌, length, arith, sym, ap, ◌∙◌, rules, subst}
 use Rattle.gate_core.specs.Circuit.{Plays}
-use Rattle.gate_core.proofs.Playing.{Costs-room, Plays-more}
+use Rattle.gate_core.proofs.Playing.{Plays-more}
 use Rattle.word_circuits.specs.Divisions.{divide_bit, divide_step, Divided}
-use Rattle.word_circuits.proofs.Dividing.{Costs-divide_steps, bits_left}
 use Rattle.word_circuits.proofs.DividingPlays.{Plays-divide_step, Plays-divide, Plays-turned_divisor}
 use Rattle.word_circuits.proofs.Affording.{Affords-divide_step}
 use Rattle.word_circuits.proofs.divisions.divide.Goals as goal

@@ -1,8 +1,5 @@
 use Rattle.std.proofs.Common.{◌-◌, ◌∷◌, length, arith, refl, sym, ap, ◌∙◌, rules}
 use Rattle.std.proofs.lemmas.List.{length-take-le}
-use Rattle.gate_core.proofs.Playing.{Costs-room}
-use Rattle.word_circuits.specs.Chains.{adder}
-use Rattle.word_circuits.proofs.Adding.{Costs-adder, Costs-chain}
 use Rattle.word_circuits.proofs.DividingPlays.{Plays-divide_bit_top}
 use Rattle.word_circuits.proofs.Affording.{Affords-divide_chain, Affords-divide_top, Affords-divide_choice}
 use Rattle.word_circuits.proofs.divisions.divide_bit.Goals as goal

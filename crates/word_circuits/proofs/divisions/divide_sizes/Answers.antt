@@ -1,8 +1,6 @@
-use Rattle.std.proofs.Common.{◌≡◌, ◌<◌, ◌-◌, length, arith, sym, ap, ◌∙◌, rules, subst}
+use Rattle.std.proofs.Common.{length, arith, sym, ap, ◌∙◌, rules, subst}
 use Rattle.gate_core.specs.Circuit.{Plays}
-use Rattle.gate_core.proofs.Playing.{Costs-room}
 use Rattle.word_circuits.specs.Divisions.{Divided, cond_negate, divide_circuit}
-use Rattle.word_circuits.proofs.Signing.{Costs-cond_negate}
 use Rattle.word_circuits.proofs.DividingPlays.{Plays-divide_sizes}
 use Rattle.word_circuits.proofs.Affording.{Affords-left, Affords-right, Affords-sizes}
 use Rattle.word_circuits.proofs.divisions.divide_sizes.Goals as goal

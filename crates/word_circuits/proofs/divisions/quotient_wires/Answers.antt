@@ -1,11 +1,6 @@
-use Rattle.std.proofs.Common.{◌≤◌, ◌-◌, ◌+◌, ◌*◌, length, arith, sym, ap, ◌∙◌, rules, subst, get_or}
+use Rattle.std.proofs.Common.{◌-◌, length, arith, sym, ap, ◌∙◌, rules, subst, get_or}
 use Rattle.gate_core.specs.Circuit.{Plays, Affords}
-use Rattle.gate_core.proofs.Playing.{Costs-room}
 use Rattle.word_circuits.specs.Divisions.{Divided, divide_sizes, cond_negate, quotient_circuit, divide_circuit}
-use Rattle.word_circuits.specs.Fragments.{ands_of, word_op}
-use Rattle.word_circuits.specs.Fragments.Operation.{op_quotient}
-use Rattle.word_circuits.proofs.Dividing.{Wide}
-use Rattle.word_circuits.proofs.Signing.{Costs-divide_sizes}
 use Rattle.word_circuits.proofs.DividingPlays.{Plays-quotient, Plays-signed_quotient}
 use Rattle.gate_core.proofs.Affording.{Affords-first}
 use Rattle.gate_core.specs.Circuit.Circuit.{give, join}

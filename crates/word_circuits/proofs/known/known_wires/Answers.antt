@@ -1,6 +1,5 @@
-use Rattle.std.proofs.Common.{◌≡◌, ◌∷◌, ◌++◌, [], length, ap, ◌∙◌, refl, sym, arith, add-one}
+use Rattle.std.proofs.Common.{◌∷◌, [], length, ap, ◌∙◌, refl, arith, add-one}
 use Rattle.std.proofs.lemmas.List.{length-append}
-use Rattle.word_circuits.specs.Known.{known_wires}
 use Rattle.word_circuits.proofs.known.known_wires.Goals as goal
 
 pub places-preserved : goal.places-preserved

@@ -1,5 +1,3 @@
-use Rattle.std.proofs.Common.{length, ap, ◌∙◌, sym, subst}
-use Rattle.word_circuits.specs.Integers.{Means}
 use Rattle.word_circuits.proofs.Knowing.{known_means}
 use Rattle.word_circuits.proofs.known.known_word.Goals as goal
 

@@ -1,7 +1,5 @@
 use Rattle.std.proofs.Common.{◌-◌, length, arith, ap, ◌∙◌, rules, take, drop, ◌++◌}
 use Rattle.std.proofs.lemmas.List.{length-drop}
-use Rattle.gate_core.proofs.Playing.{Costs-room}
-use Rattle.word_circuits.proofs.Multiplying.{Costs-part}
 use Rattle.word_circuits.proofs.Multiplying.{Plays-multiply_row}
 use Rattle.gate_core.proofs.Affording.{Affords-first}
 use Rattle.gate_core.specs.Circuit.{then}

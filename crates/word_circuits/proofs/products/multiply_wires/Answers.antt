@@ -1,10 +1,8 @@
 use Rattle.std.proofs.Common.{◌≡◌, ◌-◌, ◌+◌, length, arith, ap, ◌∙◌, rules, subst, sym, get_or}
 use Rattle.gate_core.specs.Circuit.{Plays, Affords, times}
-use Rattle.gate_core.proofs.Playing.{Costs-room, Plays-more}
-use Rattle.word_circuits.proofs.Multiplying.{Costs-part}
+use Rattle.gate_core.proofs.Playing.{Plays-more}
 use Rattle.word_circuits.proofs.Multiplying.{Plays-multiply}
 use Rattle.word_circuits.specs.Products.{multiply_step, multiply_row, part}
-use Rattle.word_circuits.proofs.Multiplying.{Costs-rows, rows_left}
 use Rattle.word_circuits.proofs.Affording.{Affords-multiply_row}
 use Rattle.gate_core.proofs.Affording.{Affords-first}
 use Rattle.word_circuits.proofs.products.multiply_wires.Goals as goal

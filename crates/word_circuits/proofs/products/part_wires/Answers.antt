@@ -1,7 +1,6 @@
 use Rattle.std.proofs.Common.{get_or, arith, refl}
 use Rattle.gate_core.specs.Circuit.Circuit.{meet, give}
-use Rattle.gate_core.proofs.Playing.{Costs-room, Plays-row_more}
-use Rattle.word_circuits.proofs.Multiplying.{Costs-part}
+use Rattle.gate_core.proofs.Playing.{Plays-row_more}
 use Rattle.gate_core.proofs.Affording.{Affords-row}
 use Rattle.word_circuits.proofs.Affording.{of_one}
 use Rattle.word_circuits.proofs.products.part_wires.Goals as goal

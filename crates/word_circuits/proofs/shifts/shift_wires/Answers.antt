@@ -1,11 +1,10 @@
-use Rattle.std.proofs.Common.{◌≡◌, ◌<◌, ◌≤◌, ◌*◌, ◌^◌, ℕ, IsTrue, length, arith, refl, ap, ◌∙◌, rules}
+use Rattle.std.proofs.Common.{◌≡◌, ◌<◌, ◌≤◌, ◌^◌, ℕ, IsTrue, length, arith, refl, ap, ◌∙◌, rules}
 use Rattle.std.proofs.lemmas.List.{append-nil}
-use Rattle.gate_core.proofs.Playing.{Plays-more, Costs-room}
+use Rattle.gate_core.proofs.Playing.{Plays-more}
 use Rattle.word_circuits.specs.Widths.{log2, is_width}
 use Rattle.word_circuits.specs.Choices.{shift_step}
 use Rattle.word_circuits.proofs.Calling.{width_pos, width_most}
-use Rattle.word_circuits.proofs.ChoosingPairs.{Costs-shift_steps}
-use Rattle.word_circuits.proofs.Shifting.{place_within, log2-small, steps_left, Plays-shift_step, Plays-shift_word}
+use Rattle.word_circuits.proofs.Shifting.{place_within, log2-small, Plays-shift_step, Plays-shift_word}
 use Rattle.word_circuits.proofs.Affording.{Affords-shift_step}
 use Rattle.word_circuits.proofs.shifts.shift_wires.Goals as goal
 
