@@ -1,5 +1,5 @@
 -- Room for circuits that are parts of others, and for lists of gates.
-use Rattle.std.proofs.Common.{◌≡◌, ℕ, zero, suc, ◌+◌, ◌<◌, ◌≤◌, List, [], ◌∷◌, ◌++◌, length, arith, sym, subst, ◌⊎◌, inl, inr, refl}
+use Rattle.std.proofs.Common.{◌≡◌, ℕ, zero, suc, ◌<◌, List, [], ◌∷◌, ◌++◌, length, arith, sym, subst, ◌⊎◌, inl, inr, refl}
 use Rattle.std.proofs.lemmas.List.{length_push}
 use Rattle.gate_core.specs.Circuit.{Circuit, Calls, then, times, row, Plays, Affords}
 use Rattle.gate_core.specs.Circuit.Circuit.{give, known, flip, join, meet}

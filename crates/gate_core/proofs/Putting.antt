@@ -1,10 +1,10 @@
 -- Gates behind other gates, with the numbers of their operands put in.
-use Rattle.std.proofs.Common.{◌≡◌, ℕ, zero, suc, ◌+◌, ◌-◌, ◌<◌, List, [], ◌∷◌, ◌++◌, length, get_or, map, refl, ap, ◌∙◌, sym, arith, subst}
-use Rattle.std.proofs.lemmas.List.{length_push, length-append, get_or_append_left, get_or-append-add, get_or_default, append_assoc, append-nil}
+use Rattle.std.proofs.Common.{◌≡◌, ℕ, zero, suc, ◌+◌, ◌-◌, List, [], ◌∷◌, ◌++◌, length, get_or, map, refl, ap, ◌∙◌, sym, arith, subst}
+use Rattle.std.proofs.lemmas.List.{length-append, get_or_append_left, get_or-append-add, get_or_default, append_assoc, append-nil}
 use Rattle.gate_core.specs.Circuit.{Calls}
 use Rattle.gate_core.specs.Relations.{All2}
 use Rattle.gate_core.specs.GateList.{Gate, gate_known, gate_not, gate_xor, gate_and, At, PlaysList, PlaysGates}
-use Rattle.gate_core.specs.Wiring.{number_in, renumbered, put_in, PlaysOnward, PlaysPutIn}
+use Rattle.gate_core.specs.Wiring.{number_in, renumbered, PlaysOnward, PlaysPutIn}
 
 -- one list of gates, and then another
 pub list_then : {S W : Type 0} (m : Calls S W) (gs hs : List Gate) (ws us vs : List W) (s u t : S)

@@ -1,9 +1,9 @@
 -- Gates behind other gates, read over any kind of wire.
-use Rattle.std.proofs.Common.{◌≡◌, ℕ, zero, suc, ◌+◌, ◌-◌, ◌<◌, false, List, [], ◌∷◌, ◌++◌, length, get_or, map, refl, ap, ◌∙◌, sym, arith, subst}
+use Rattle.std.proofs.Common.{◌≡◌, ℕ, zero, suc, ◌+◌, ◌-◌, false, List, [], ◌∷◌, ◌++◌, length, get_or, map, refl, ap, ◌∙◌, sym, arith}
 use Rattle.std.proofs.lemmas.List.{get_or_append_left, get_or-append-add, get_or_default, append_assoc, append-nil}
 use Rattle.gate_core.specs.Relations.{All2}
 use Rattle.gate_core.specs.GateList.{Gate, gate_known, gate_not, gate_xor, gate_and, At}
-use Rattle.gate_core.specs.Wiring.{Wiring, read, read_gate, read_gates, wire_at, wires_at, number_in, renumbered, put_in, ReadsOnward, ReadsPutIn}
+use Rattle.gate_core.specs.Wiring.{Wiring, read_gate, read_gates, wires_at, number_in, renumbered, ReadsOnward, ReadsPutIn}
 
 pub reads_onward : {W K : Type 0} (N : Wiring W K) → ReadsOnward N
 reads_onward N [] hs ws k = refl

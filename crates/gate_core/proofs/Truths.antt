@@ -1,5 +1,5 @@
 -- Wires of gates that were played stand for the truth of the operands' bits.
-use Rattle.std.proofs.Common.{◌≡◌, ◌<◌, ℕ, zero, suc, Bool, false, not, ◌&&◌, List, [], ◌∷◌, ◌++◌, length, get_or, refl, ap, ◌∙◌, sym, subst, arith}
+use Rattle.std.proofs.Common.{◌≡◌, ◌<◌, ℕ, zero, suc, Bool, false, not, ◌&&◌, List, [], ◌∷◌, length, get_or, refl, ap, ◌∙◌, sym, subst, arith}
 use Rattle.std.specs.Bool.{⊤}
 use Rattle.gate_core.specs.Circuit.{Circuit, Calls, Plays, xor}
 use Rattle.gate_core.proofs.Relating.{truth, Same, Costs}

@@ -1,6 +1,6 @@
 -- What the calls of the backends that only count give, which are seen as the number of ANDs that they made.
 use Rattle.std.specs.Prelude.{◌≡◌, ℕ, ◌+◌, ◌%◌, ◌^◌, Bool, false, ◌&&◌, not, refl}
-use Rattle.std.proofs.Common.{arith, ap, ◌∙◌, subst, sym}
+use Rattle.std.proofs.Common.{arith, ap, ◌∙◌}
 use Rattle.gate_core.specs.Circuit.{Calls, xor}
 use Rattle.gate_core.specs.Laws.{Laws, Counts, Rises, HasRoom}
 

@@ -1,5 +1,5 @@
 -- A circuit: gates one after another, over any kind of wire.
-use Rattle.std.specs.Prelude.{◌≡◌, ℕ, zero, suc, Bool, true, false, ◌&&◌, not, List, [], ◌∷◌, ◌++◌}
+use Rattle.std.specs.Prelude.{◌≡◌, ℕ, zero, suc, Bool, true, false, not, List, [], ◌∷◌, ◌++◌}
 
 -- gates in the order in which they are made, each of which gives its wire to what follows, and in the end the answer
 pub data Circuit (W A : Type 0) : Type 0 where

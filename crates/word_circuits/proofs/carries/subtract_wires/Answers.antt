@@ -13,9 +13,19 @@ sum_wires-requires g c =
     let high = c.known-one.result in
     let l = ap length c.as_slice.ensures.value in
     let n = c.flip_wires-turned.ensures.len in
-    let turned = subst (λ n. Plays m (flips y high n) c.args.gates.now c.flip_wires-turned.result.items c.args.gates.now) (sym c.requires.same) (c.flip_wires-turned.ensures.plays high) in
-    (search rules, (c.requires.some, (omega (arith, l, n, c.requires.same), (c.requires.fits,
-    Affords-subtract m (length x) x y high c.flip_wires-turned.result.items _ _ c.known-one.ensures c.as_slice.ensures.value turned c.requires.room))))
+    let turned = subst (λ n. Plays m (flips y high n) c.args.gates.now c.flip_wires-turned.result.items c.args.gates.now) (sym c.requires.same) (c.flip_wires-turned.ensures.plays high) in (
+      search rules,
+      (
+        c.requires.some,
+        (
+          omega (arith, l, n, c.requires.same),
+          (
+            c.requires.fits,
+            Affords-subtract m (length x) x y high c.flip_wires-turned.result.items _ _ c.known-one.ensures c.as_slice.ensures.value turned c.requires.room,
+          ),
+        ),
+      ),
+    )
 
 pub returns-clause-plays : goal.returns-clause-plays
 returns-clause-plays g c =

@@ -16,9 +16,16 @@ cond_negate-right-requires g c =
     let x = c.args.x.now in
     let y = c.args.y.now in
     let d = c.requires.room.0 in
-    let same = c.requires.same in
-    (search rules, (omega (arith, same, c.requires.some), (omega (arith, same, c.requires.fits),
-    (d, Affords-right g.G.Gates.calls (length x) (length y) x y d c.wire.result c.wire-2.result _ _ _ (c.wire.ensures d) (c.wire-2.ensures d) (sym same) (c.cond_negate-left.ensures.plays d) c.requires.room.1))))
+    let same = c.requires.same in (
+      search rules,
+      (
+        omega (arith, same, c.requires.some),
+        (
+          omega (arith, same, c.requires.fits),
+          (d, Affords-right g.G.Gates.calls (length x) (length y) x y d c.wire.result c.wire-2.result _ _ _ (c.wire.ensures d) (c.wire-2.ensures d) (sym same) (c.cond_negate-left.ensures.plays d) c.requires.room.1),
+        ),
+      ),
+    )
 
 pub divide-requires : goal.divide-requires
 divide-requires g c =
