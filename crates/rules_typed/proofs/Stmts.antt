@@ -1,0 +1,566 @@
+-- What the rules give for a statement passes the test.
+use Rattle.std.proofs.Common.{ℕ, ◌+◌, ◌≡◌, List, [], ◌∷◌, ◌++◌, length, Option, Some, None, Ok, Err, refl, sym, ap, ◌∙◌, subst, Bool, true, false, nat_eq, arith}
+use Rattle.std.specs.Prelude.{◌&&◌, ◌||◌, not, if◌then◌else◌, slice_get, IfOk}
+use Rattle.oc_values.specs.declared.integers.IntKind.TheVariants.{Bool as KBool}
+use Rattle.oc_cells.specs.declared.types.CType.{CType, Int}
+use Rattle.oc_cells.specs.declared.types.SlotType.{SlotType}
+use Rattle.oc_cells.specs.Types.{same}
+use Rattle.oc_cells.proofs.Equal.{same_is_equal}
+use Rattle.oc_source.specs.declared.spot.Spot.{Spot}
+use Rattle.oc_typed.specs.declared.typed.TExpr.{TExpr}
+use Rattle.oc_typed.specs.declared.typed.TStmt as made_stmt
+use Rattle.oc_typed.specs.declared.typed.TStmtNode as s
+use Rattle.oc_typed.specs.declared.typed.TStmtNode.TheBlock.{hidden-the_row-TStmt-0, hidden-the_row-TStmt-1, back-the_row-TStmt}
+use Rattle.oc_typed.specs.declared.typed.TDeclared as made_declared
+use Rattle.oc_typed.specs.declared.typed.TForInit as made_init
+use Rattle.oc_typed.specs.declared.typed.TForInit.TheVariants as init
+use denote.Hole.Carrier.{hidden}
+use Rattle.oc_source.specs.declared.parsed.Expr.{Expr}
+use Rattle.oc_source.specs.declared.parsed.Declared.{Declared}
+use Rattle.oc_source.specs.declared.parsed.StmtNode.{StmtNode, Declare, Express, Block', If', OblivIf', Always', While', For', Return, Break, Continue, Empty, Row_of-Stmt, end_of-Stmt, more_of-Stmt, Held-StmtNode-If-2, None', Some'}
+use Rattle.oc_source.specs.declared.parsed.ForInit.{ForInit}
+use Rattle.oc_source.specs.declared.parsed.ForInit.TheVariants as begin
+use mathlib.Core.Former.{this, list_count, children}
+use mathlib.Core.List as lists
+use Rattle.sqlite_items.specs.formers.items.Items.{the_former}
+use Rattle.type_rules.specs.declared.judging.Seen.{Seen}
+use Rattle.type_rules.specs.declared.judging.TypeRule.{TypeRule}
+use Rattle.type_rules.specs.declared.judging.TypeRule.TheVariants.{T2, T3, T4, T12}
+use Rattle.type_rules.specs.Judging.{Judged, next, breaks, needs, public_integer}
+use Rattle.type_rules.specs.Judging as judging
+use Rattle.type_rules.specs.Lookup.{Lookup}
+use Rattle.type_rules.specs.Lookup as lookup
+use Rattle.type_rules.specs.Written.{field_type, is_frozen_place}
+use Rattle.type_rules.specs.Rules.{expr, typed_value, typed_alone}
+use Rattle.type_rules.specs.StatementRules.{Scope, Walk, bind, pure, ask, at, scoped, is_taken, add, value_in, alone_in, optional_in, declare, declare_all}
+use Rattle.type_rules.specs.StatementRules as walk
+use Rattle.oc_typed.specs.Visible as visible
+use Rattle.oc_typing.specs.Rules.{is_type, is_nothing}
+use Rattle.oc_typing.specs.Rules as test
+use Rattle.oc_typing.specs.Typed.{Context, alone, has_type}
+use Rattle.oc_typing.specs.Typed as typed
+use Rattle.rules_typed.specs.Grammatical.{Grammatical, GrammaticalOption, GrammaticalDeclared, GrammaticalHeader, is_declaration, GrammaticalStmt, GrammaticalPart, GrammaticalRows, GrammaticalOther}
+use Rattle.rules_typed.specs.Agreeing.{Valued, GoodVariable, Agrees, Goes, AgreesApart, SeesAll}
+use Rattle.rules_typed.specs.Laws.{StatementsAreTyped}
+use Rattle.rules_typed.proofs.Nodes.{never, both, three, last, either, int_good, public_test, converted_good, held_of}
+use Rattle.rules_typed.proofs.Exprs.{expressions_typed, valued_good}
+use Rattle.rules_typed.proofs.Used.{value_used}
+
+one_on : (a b : List SlotType) (t : SlotType) → (a ++ t ∷ []) ++ b ≡ a ++ t ∷ b
+one_on [] b t = refl
+one_on (x ∷ a) b t = ap (λ l. x ∷ l) (one_on a b t)
+
+goes_back : (a f : List SlotType) (t : SlotType) → Goes (a ++ t ∷ []) f → Goes a f
+goes_back a f t g = (t ∷ g.0, g.1 ∙ one_on a g.0 t)
+
+there_at : (a b : List SlotType) (t : SlotType) → slice_get (a ++ t ∷ b) (length a) ≡ Some t
+there_at [] b t = refl
+there_at (x ∷ a) b t = there_at a b t
+
+there : (a f : List SlotType) (t : SlotType) → Goes (a ++ t ∷ []) f → slice_get f (length a) ≡ Some t
+unfolding goes_back
+there a f t g = subst (λ l. slice_get l (length a) ≡ Some t) (sym (goes_back a f t g).1) (there_at a g.0 t)
+
+module _ (r : Lookup) (g : Context) (around : AgreesApart r g) where
+  abbrev among : List SlotType → Context
+  among f = record g { slots = f }
+
+  abbrev Sees : List ℕ → List Seen → List SlotType → Type 0
+  Sees vis ss f = SeesAll g vis ss f
+
+  fits : (ss : List Seen) (f : List SlotType) (vis : List ℕ) → Sees vis ss f → Agrees (record r { seen = ss }) (among f) vis
+  fits ss f vis h = record {
+    seen = h;
+    fields = around.fields ss f;
+    types = around.types ss;
+    functions = around.functions ss f;
+  }
+
+  value_fact : (e : Expr) (z : Scope) (f : List SlotType) (vis : List ℕ) → Grammatical e.node → Sees vis z.seen f → IfOk (typed_value (at r z) e) (λ v. alone (among f) vis v ≡ true)
+  unfolding typed_value
+  value_fact e z f vis h i = valued_good (at r z) (among f) vis (fits z.seen f vis i) (expr (at r z) false e.spot e.node) (expressions_typed (at r z) (among f) vis e.node false e.spot (fits z.seen f vis i) h)
+
+  alone_fact : (e : Expr) (z : Scope) (f : List SlotType) (vis : List ℕ) → Grammatical e.node → Sees vis z.seen f → IfOk (typed_alone (at r z) e) (λ v. alone (among f) vis v ≡ true)
+  unfolding typed_alone
+  alone_fact e z f vis h i = valued_good (at r z) (among f) vis (fits z.seen f vis i) (expr (at r z) true e.spot e.node) (expressions_typed (at r z) (among f) vis e.node true e.spot (fits z.seen f vis i) h)
+
+  -- an expression passes the test wherever its names are visible
+  abbrev Passed : Scope → TExpr → Type 0
+  Passed z v = (f : List SlotType) (vis : List ℕ) → Sees vis z.seen f → alone (among f) vis v ≡ true
+
+  with_value : {B : Type 0} (Q : B × Scope → Type 0) (e : Expr) (k : TExpr → Walk B) (z : Scope) → Grammatical e.node → ((v : TExpr) → Passed z v → IfOk (k v z) Q) → IfOk (bind (value_in r e) k z) Q
+  unfolding next
+  with_value {B} Q e k z h f = on (typed_value (at r z) e) (λ l vis i. value_fact e z l vis h i) f
+    where
+      on : (m : Judged TExpr) → ((l : List SlotType) (vis : List ℕ) → Sees vis z.seen l → IfOk m (λ v. alone (among l) vis v ≡ true)) → ((v : TExpr) → Passed z v → IfOk (k v z) Q) → IfOk (next {A = TExpr × Scope} (next m (λ v. Ok (v, z))) (λ x. k x.0 x.1)) Q
+      on (Ok v) i f = f v i
+      on (Err b) i f = tt
+
+  with_alone : {B : Type 0} (Q : B × Scope → Type 0) (e : Expr) (k : TExpr → Walk B) (z : Scope) → Grammatical e.node → ((v : TExpr) → Passed z v → IfOk (k v z) Q) → IfOk (bind (alone_in r e) k z) Q
+  unfolding next
+  with_alone {B} Q e k z h f = on (typed_alone (at r z) e) (λ l vis i. alone_fact e z l vis h i) f
+    where
+      on : (m : Judged TExpr) → ((l : List SlotType) (vis : List ℕ) → Sees vis z.seen l → IfOk m (λ v. alone (among l) vis v ≡ true)) → ((v : TExpr) → Passed z v → IfOk (k v z) Q) → IfOk (next {A = TExpr × Scope} (next m (λ v. Ok (v, z))) (λ x. k x.0 x.1)) Q
+      on (Ok v) i f = f v i
+      on (Err b) i f = tt
+
+  -- one part after another
+  with_part : {A B : Type 0} (P : A × Scope → Type 0) (Q : B × Scope → Type 0) (m : Walk A) (k : A → Walk B) (z : Scope) → IfOk (m z) P → ((a : A) (t : Scope) → P (a, t) → IfOk (k a t) Q) → IfOk (bind m k z) Q
+  unfolding next
+  with_part {A} {B} P Q m k z h f = on (m z) h
+    where
+      on : (x : Judged (A × Scope)) → IfOk x P → IfOk (next x (λ x. k x.0 x.1)) Q
+      on (Ok x) h = f x.0 x.1 h
+      on (Err b) h = tt
+
+  with_needs : {B : Type 0} (Q : B × Scope → Type 0) (p : Spot) (b : TypeRule) (c : Bool) (k : Walk B) (z : Scope) → (c ≡ true → IfOk (k z) Q) → IfOk (bind (ask (needs p b c)) (λ _. k) z) Q
+  unfolding next
+  with_needs Q p b true k z f = f refl
+  with_needs Q p b false k z f = tt
+
+  with_public : {B : Type 0} (Q : B × Scope → Type 0) (p : Spot) (u : CType) (k : Walk B) (z : Scope) → (test.is_public u ≡ true → IfOk (k z) Q) → IfOk (bind (ask (public_integer p u)) (λ _. k) z) Q
+  unfolding next
+  with_public {B} Q p u k z f = on (judging.is_public u) (judging.is_public (judging.bare u)) (λ c. f (public_test u c))
+    where
+      on : (c d : Bool) → (c ≡ true → IfOk (k z) Q) → IfOk (next {A = Unit {0} × Scope} (next {A = Unit {0}} (if c then Ok (tt {0}) else if d then breaks p T4 else breaks p T3) (λ a. Ok (a, z))) (λ x. k x.1)) Q
+      on true d f = f refl
+      on false true f = tt
+      on false false f = tt
+
+  with_convert : {B : Type 0} (Q : B × Scope → Type 0) (u : CType) (v : TExpr) (k : TExpr → Walk B) (z : Scope) → (judging.converts v.ty u ≡ true → IfOk (k (lookup.converted u v) z) Q) → IfOk (bind (ask (lookup.convert u v)) k z) Q
+  unfolding next
+  with_convert {B} Q u v k z f = on (judging.converts v.ty u) (judging.converts (judging.bare v.ty) (judging.bare u)) f
+    where
+      on : (c d : Bool) → (c ≡ true → IfOk (k (lookup.converted u v) z) Q) → IfOk (next {A = TExpr × Scope} (next {A = TExpr} (next {A = Unit {0}} (if c then Ok (tt {0}) else if d then breaks v.spot T4 else breaks v.spot T3) (λ _. Ok (lookup.converted u v))) (λ a. Ok (a, z))) (λ x. k x.0 x.1)) Q
+      on true d f = f refl
+      on false true f = tt
+      on false false f = tt
+
+  -- Names.
+
+  some_is : {A : Type 0} {a b : A} → Some a ≡ Some b → a ≡ b
+  some_is q = (cc)
+
+  none_some : {A : Type 0} {a : A} → None ≡ Some a → ⊥
+  none_some q = (cc)
+
+  some_none : {A : Type 0} {a : A} → Some a ≡ None → ⊥
+  some_none q = (cc)
+
+  none_add : (ss : List Seen) (n : Seen) (x : List ℕ) → lookup.find (ss ++ n ∷ []) x ≡ None → lookup.find ss x ≡ None
+  none_add [] n x q = refl
+  none_add (y ∷ ss) n x q = on (lookup.find (ss ++ n ∷ []) x) (lookup.find ss x) (lookup.seen_here y x) (λ p. none_add ss n x p) q
+    where
+      on : (o m k : Option Seen) → (o ≡ None → m ≡ None) → lookup.or_else o k ≡ None → lookup.or_else m k ≡ None
+      on (Some a) m k f q = absurd (some_none q)
+      on None m k f q = subst (λ m. lookup.or_else m k ≡ None) (sym (f refl)) q
+
+  find_add : (P : Type 0) (ss : List Seen) (n : Seen) (x : List ℕ) (y : Seen) → lookup.find (ss ++ n ∷ []) x ≡ Some y → (y ≡ n → P) → (lookup.find ss x ≡ Some y → P) → P
+  find_add P [] n x y q f h = on (lookup.same_name n.name x) q
+    where
+      on : (b : Bool) → (if b then Some n else None) ≡ Some y → P
+      on true q = f (sym (some_is q))
+      on false q = absurd (none_some q)
+  find_add P (w ∷ ss) n x y q f h = on (lookup.find (ss ++ n ∷ []) x) refl q
+      (λ p. find_add P ss n x y p f (λ m. h (subst (λ o. lookup.or_else o (lookup.seen_here w x) ≡ Some y) (sym m) refl)))
+      (λ p. none_add ss n x p)
+    where
+      on : (o : Option Seen) → lookup.find (ss ++ n ∷ []) x ≡ o → lookup.or_else o (lookup.seen_here w x) ≡ Some y → (lookup.find (ss ++ n ∷ []) x ≡ Some y → P) → (lookup.find (ss ++ n ∷ []) x ≡ None → lookup.find ss x ≡ None) → P
+      on (Some a) p q i j = i (p ∙ q)
+      on None p q i j = h (subst (λ o. lookup.or_else o (lookup.seen_here w x) ≡ Some y) (sym (j p)) q)
+
+  number_itself : (n : ℕ) → nat_eq n n ≡ true
+  number_itself n = grind arith
+
+  type_itself : (u : CType) → same true u u ≡ true
+  type_itself u = (same_is_equal u u).itself refl
+
+  has_itself : (u : CType) (frozen : Bool) (o : Option SlotType) → o ≡ Some (record { ty = u; frozen = frozen }) → has_type u o ≡ true
+  has_itself u frozen o q = subst (λ o. has_type u o ≡ true) (sym q) (type_itself u)
+
+  sees_more : (z : Scope) (f : List SlotType) (vis : List ℕ) (x : List ℕ) (u : CType) (frozen : Bool) → is_type g.sizes g.public u ≡ true → Goes (add x u frozen z).slots f → Sees vis z.seen f → Sees (length z.slots ∷ vis) (add x u frozen z).seen f
+  sees_more z f vis x u frozen k e h = λ y w q.
+      find_add (GoodVariable (among f) (length z.slots ∷ vis) w) z.seen (record { name = x; level = z.level; slot = length z.slots; ty = u }) y w q
+      (λ p. subst (λ w. GoodVariable (among f) (length z.slots ∷ vis) w) (sym p) (record { visible = either _ _ (number_itself (length z.slots)); slot = has_itself u frozen _ (there z.slots f (record { ty = u; frozen = frozen }) e); ty = k }))
+      (λ p. let o = h y w p in record { visible = last _ _ o.visible; slot = o.slot; ty = o.ty })
+
+  -- Declarations.
+
+  pub record DoneDeclared (z : Scope) (x : made_declared.TDeclared) (t : Scope) : Type 0 where
+    pub grows : (f : List SlotType) → Goes t.slots f → Goes z.slots f
+    pub test : (f : List SlotType) (vis : List ℕ) → Goes t.slots f → Sees vis z.seen f → typed.initial (among f) (x.slot ∷ vis) (slice_get f x.slot) x.init ≡ true
+    pub sees : (f : List SlotType) (vis : List ℕ) → Goes t.slots f → Sees vis z.seen f → Sees (x.slot ∷ vis) t.seen f
+
+  -- a value that is converted to a type, wherever its names are visible
+  abbrev Turned : Scope → CType → TExpr → Type 0
+  Turned z u x = (f : List SlotType) (vis : List ℕ) → Sees vis z.seen f → Valued (among f) vis u x
+
+  turned_value : (z : Scope) (u : CType) (v : TExpr) → is_type g.sizes g.public u ≡ true → Passed z v → judging.converts v.ty u ≡ true → Turned z u (lookup.converted u v)
+  turned_value z u v k h c = λ f vis i. converted_good (among f) vis u v (h f vis i) k c
+
+  initial_test : (f : List SlotType) (vis : List ℕ) (u : CType) (frozen : Bool) (o : Option SlotType) (x : TExpr) → o ≡ Some (record { ty = u; frozen = frozen }) → test.is_held u ≡ true → Valued (among f) vis u x → typed.initial (among f) vis o (Some x) ≡ true
+  initial_test f vis u frozen o x q h v = subst (λ o. typed.initial (among f) vis o (Some x) ≡ true) (sym q) (three (subst (λ w. same true w u ≡ true) (sym v.ty) (type_itself u)) h v.good)
+
+  initial_none : (f : List SlotType) (vis : List ℕ) (u : CType) (frozen : Bool) (o : Option SlotType) → o ≡ Some (record { ty = u; frozen = frozen }) → typed.initial (among f) vis o None ≡ true
+  initial_none f vis u frozen o q = subst (λ o. typed.initial (among f) vis o None ≡ true) (sym q) refl
+
+  declared_none : (z : Scope) (p : Spot) (x : List ℕ) (u : CType) (frozen : Bool) → is_type g.sizes g.public u ≡ true → DoneDeclared z (record { spot = p; slot = length z.slots; init = None }) (add x u frozen z)
+  declared_none z p x u frozen k = record {
+    grows = λ f e. goes_back z.slots f (record { ty = u; frozen = frozen }) e;
+    test = λ f vis e h. initial_none f (length z.slots ∷ vis) u frozen (slice_get f (length z.slots)) (there z.slots f (record { ty = u; frozen = frozen }) e);
+    sees = λ f vis e h. sees_more z f vis x u frozen k e h;
+  }
+
+  declared_some : (z : Scope) (p : Spot) (x : List ℕ) (u : CType) (frozen : Bool) (v : TExpr) → is_type g.sizes g.public u ≡ true → test.is_held u ≡ true → Turned (add x u frozen z) u v → DoneDeclared z (record { spot = p; slot = length z.slots; init = Some v }) (add x u frozen z)
+  declared_some z p x u frozen v k h t = record {
+    grows = λ f e. goes_back z.slots f (record { ty = u; frozen = frozen }) e;
+    test = λ f vis e i. initial_test f (length z.slots ∷ vis) u frozen (slice_get f (length z.slots)) v (there z.slots f (record { ty = u; frozen = frozen }) e) h (t f (length z.slots ∷ vis) (sees_more z f vis x u frozen k e i));
+    sees = λ f vis e i. sees_more z f vis x u frozen k e i;
+  }
+
+  initial_done : (z : Scope) (p : Spot) (x : List ℕ) (u : CType) (frozen : Bool) (o : Option Expr) → is_type g.sizes g.public u ≡ true → GrammaticalOption o → IfOk (bind (walk.initial r u o) (λ v. pure (record { spot = p; slot = length z.slots; init = v })) (add x u frozen z)) (λ q. DoneDeclared z q.0 q.1)
+  unfolding next
+  initial_done z p x u frozen None k h = declared_none z p x u frozen k
+  initial_done z p x u frozen (Some e) k h =
+      with_part (λ q. (v : TExpr) × (q.0 ≡ Some v) × (q.1 ≡ add x u frozen z) × (test.is_held u ≡ true) × Turned (add x u frozen z) u v) (λ q. DoneDeclared z q.0 q.1) (walk.initial r u (Some e)) (λ v. pure (record { spot = p; slot = length z.slots; init = v })) (add x u frozen z)
+      (with_value (λ q. (v : TExpr) × (q.0 ≡ Some v) × (q.1 ≡ add x u frozen z) × (test.is_held u ≡ true) × Turned (add x u frozen z) u v) e (λ v. bind (ask (lookup.convert u v)) (λ x. pure (Some x))) (add x u frozen z) h
+      (λ v i. with_convert (λ q. (v : TExpr) × (q.0 ≡ Some v) × (q.1 ≡ add x u frozen z) × (test.is_held u ≡ true) × Turned (add x u frozen z) u v) u v (λ x. pure (Some x)) (add x u frozen z) (λ c. (lookup.converted u v, refl, refl, held_of v.ty u c, turned_value (add x u frozen z) u v k i c))))
+      (λ a t q. subst (λ t. DoneDeclared z (record { spot = p; slot = length z.slots; init = a }) t) (sym q.2) (subst (λ a. DoneDeclared z (record { spot = p; slot = length z.slots; init = a }) (add x u frozen z)) (sym q.1) (declared_some z p x u frozen q.0 k q.3 q.4)))
+
+  declare_done : (d : Declared) (z : Scope) → GrammaticalOption d.init → IfOk (declare r d z) (λ q. DoneDeclared z q.0 q.1)
+  unfolding next
+  declare_done d z h = on (field_type r d.field) (not (is_taken z.seen z.level d.field.name)) around_declared
+    where
+      around_declared : (u : CType) → field_type r d.field ≡ Ok u → is_type g.sizes g.public u ≡ true
+      around_declared u q = around.declared d.field u q
+      on : (m : Judged CType) (b : Bool) → ((u : CType) → m ≡ Ok u → is_type g.sizes g.public u ≡ true) → IfOk (next m (λ ty. next (needs d.field.spot T2 b) (λ _. bind {B = made_declared.TDeclared} (walk.initial r ty d.init) (λ v. pure (record { spot = d.field.spot; slot = length z.slots; init = v })) (add d.field.name ty (is_frozen_place d.field.base d.field.stars) z)))) (λ q. DoneDeclared z q.0 q.1)
+      on (Ok u) true i = initial_done z d.field.spot d.field.name u (is_frozen_place d.field.base d.field.stars) d.init (i u refl) h
+      on (Ok u) false i = tt
+      on (Err e) b i = tt
+
+  pub record DoneAll (z : Scope) (xs : List made_declared.TDeclared) (t : Scope) : Type 0 where
+    pub grows : (f : List SlotType) → Goes t.slots f → Goes z.slots f
+    pub test : (f : List SlotType) (vis : List ℕ) → Goes t.slots f → Sees vis z.seen f → typed.declares (among f) vis xs ≡ true
+    pub sees : (f : List SlotType) (vis : List ℕ) → Goes t.slots f → Sees vis z.seen f → Sees (visible.after_all vis xs) t.seen f
+
+  declare_all_done : (ds : List Declared) (z : Scope) → GrammaticalDeclared ds → IfOk (declare_all r ds z) (λ q. DoneAll z q.0 q.1)
+  declare_all_done [] z h = record { grows = λ f e. e; test = λ f vis e i. refl; sees = λ f vis e i. i }
+  declare_all_done (d ∷ ds) z h =
+      with_part (λ q. DoneDeclared z q.0 q.1) (λ q. DoneAll z q.0 q.1) (declare r d) (λ x. bind (declare_all r ds) (λ xs. pure (x ∷ xs))) z (declare_done d z h.0)
+      (λ x t a. with_part (λ q. DoneAll t q.0 q.1) (λ q. DoneAll z q.0 q.1) (declare_all r ds) (λ xs. pure (x ∷ xs)) t (declare_all_done ds t h.1)
+      (λ xs w b. record {
+        grows = λ f e. a.grows f (b.grows f e);
+        test = λ f vis e i. both (a.test f vis (b.grows f e) i) (b.test f (x.slot ∷ vis) e (a.sees f vis (b.grows f e) i));
+        sees = λ f vis e i. b.sees f (x.slot ∷ vis) e (a.sees f vis (b.grows f e) i);
+      }))
+
+  -- Statements.
+
+  -- a statement, of which it is known whether it declares
+  pub record Done (declares : Bool) (loop : Bool) (z : Scope) (x : made_stmt.TStmt) (t : Scope) : Type 0 where
+    pub grows : (f : List SlotType) → Goes t.slots f → Goes z.slots f
+    pub test : (f : List SlotType) (vis : List ℕ) → Goes t.slots f → Sees vis z.seen f → typed.stmt (among f) loop vis x.node ≡ true
+    pub sees : (f : List SlotType) (vis : List ℕ) → Goes t.slots f → Sees vis z.seen f → Sees (visible.after_node vis x.node) t.seen f
+    pub still : declares ≡ false → (vis : List ℕ) → visible.after_node vis x.node ≡ vis
+
+  -- a statement's part: what was visible stays so
+  pub record DonePart (loop : Bool) (z : Scope) (x : made_stmt.TStmt) (t : Scope) : Type 0 where
+    pub grows : (f : List SlotType) → Goes t.slots f → Goes z.slots f
+    pub test : (f : List SlotType) (vis : List ℕ) → Goes t.slots f → Sees vis z.seen f → typed.stmt (among f) loop vis x.node ≡ true
+    pub sees : (f : List SlotType) (vis : List ℕ) → Goes t.slots f → Sees vis z.seen f → Sees vis t.seen f
+
+  as_part : (d loop : Bool) (z : Scope) (x : made_stmt.TStmt) (t : Scope) → d ≡ false → Done d loop z x t → DonePart loop z x t
+  as_part d loop z x t q h = record { grows = h.grows; test = h.test; sees = λ f vis e i. subst (λ v. Sees v t.seen f) (h.still q vis) (h.sees f vis e i) }
+
+  abbrev other_test : List SlotType → Bool → List ℕ → Option made_stmt.TStmt → Type 0
+  other_test f loop vis None = Unit {0}
+  other_test f loop vis (Some x) = typed.stmt (among f) loop vis x.node ≡ true
+
+  pub record DoneOther (loop : Bool) (z : Scope) (o : Option made_stmt.TStmt) (t : Scope) : Type 0 where
+    pub grows : (f : List SlotType) → Goes t.slots f → Goes z.slots f
+    pub test : (f : List SlotType) (vis : List ℕ) → Goes t.slots f → Sees vis z.seen f → other_test f loop vis o
+    pub sees : (f : List SlotType) (vis : List ℕ) → Goes t.slots f → Sees vis z.seen f → Sees vis t.seen f
+
+  abbrev rows_test : List SlotType → Bool → List ℕ → List made_stmt.TStmt → Bool
+  rows_test f loop vis [] = true
+  rows_test f loop vis (x ∷ xs) = typed.stmt (among f) loop vis x.node && rows_test f loop (visible.after_node vis x.node) xs
+
+  pub record DoneRows (loop : Bool) (z : Scope) (xs : List made_stmt.TStmt) (t : Scope) : Type 0 where
+    pub grows : (f : List SlotType) → Goes t.slots f → Goes z.slots f
+    pub test : (f : List SlotType) (vis : List ℕ) → Goes t.slots f → Sees vis z.seen f → rows_test f loop vis xs ≡ true
+
+  abbrev stmts_of : (ss : List made_stmt.TStmt) → s.Row_of-TStmt (list_count (this {0}) (lists.map (λ x. (this {0}).shape made_stmt.TStmt x) ss) 0)
+  stmts_of ss = back-the_row-TStmt (list_count (this {0}) (lists.map (λ x. (this {0}).shape made_stmt.TStmt x) ss) 0) (children (the_former (this {0})) made_stmt.TStmt ss)
+
+  rows_same : (f : List SlotType) (loop : Bool) (vis : List ℕ) (ss : List made_stmt.TStmt) → typed.rows (among f) loop vis (stmts_of ss) ≡ rows_test f loop vis ss
+  unfolding hidden
+  rows_same f loop vis [] = refl
+  rows_same f loop vis (x ∷ xs) = ap (λ b. typed.stmt (among f) loop vis x.node && b) (rows_same f loop (visible.after_node vis x.node) xs)
+
+  block_node : (f : List SlotType) (loop : Bool) (vis : List ℕ) (ss : List made_stmt.TStmt) → rows_test f loop vis ss ≡ true → typed.stmt (among f) loop vis (s.Block ss) ≡ true
+  unfolding hidden-the_row-TStmt-1 hidden
+  block_node f loop vis ss h = rows_same f loop vis ss ∙ h
+
+  block_still : (ss : List made_stmt.TStmt) (vis : List ℕ) → visible.after_node vis (s.Block ss) ≡ vis
+  unfolding hidden-the_row-TStmt-1 hidden
+  block_still ss vis = refl
+
+  if_node : (f : List SlotType) (loop : Bool) (vis : List ℕ) (c : TExpr) (a : made_stmt.TStmt) (b : Option made_stmt.TStmt) → typed.condition (among f) vis c ≡ true → typed.stmt (among f) loop vis a.node ≡ true → other_test f loop vis b → typed.stmt (among f) loop vis (s.If c a b) ≡ true
+  unfolding hidden-the_row-TStmt-0 hidden-the_row-TStmt-1 hidden
+  if_node f loop vis c a None h i j = three h i refl
+  if_node f loop vis c a (Some b) h i j = three h i j
+
+  if_still : (c : TExpr) (a : made_stmt.TStmt) (b : Option made_stmt.TStmt) (vis : List ℕ) → visible.after_node vis (s.If c a b) ≡ vis
+  unfolding hidden-the_row-TStmt-0 hidden-the_row-TStmt-1 hidden
+  if_still c a None vis = refl
+  if_still c a (Some b) vis = refl
+
+  hidden_node : (f : List SlotType) (loop : Bool) (vis : List ℕ) (c : TExpr) (a : made_stmt.TStmt) (b : Option made_stmt.TStmt) → Valued (among f) vis (Int KBool true) c → typed.stmt (among f) loop vis a.node ≡ true → other_test f loop vis b → typed.stmt (among f) loop vis (s.OblivIf c a b) ≡ true
+  unfolding hidden-the_row-TStmt-0 hidden-the_row-TStmt-1 hidden
+  hidden_node f loop vis c a None h i j = both (three (subst (λ u. same true u (Int KBool true) ≡ true) (sym h.ty) refl) h.good i) refl
+  hidden_node f loop vis c a (Some b) h i j = both (three (subst (λ u. same true u (Int KBool true) ≡ true) (sym h.ty) refl) h.good i) j
+
+  hidden_still : (c : TExpr) (a : made_stmt.TStmt) (b : Option made_stmt.TStmt) (vis : List ℕ) → visible.after_node vis (s.OblivIf c a b) ≡ vis
+  unfolding hidden-the_row-TStmt-0 hidden-the_row-TStmt-1 hidden
+  hidden_still c a None vis = refl
+  hidden_still c a (Some b) vis = refl
+
+  while_node : (f : List SlotType) (loop : Bool) (vis : List ℕ) (c : TExpr) (a : made_stmt.TStmt) → typed.condition (among f) vis c ≡ true → typed.stmt (among f) true vis a.node ≡ true → typed.stmt (among f) loop vis (s.While c a) ≡ true
+  unfolding hidden-the_row-TStmt-0 hidden-the_row-TStmt-1 hidden
+  while_node f loop vis c a h i = both h i
+
+  while_still : (c : TExpr) (a : made_stmt.TStmt) (vis : List ℕ) → visible.after_node vis (s.While c a) ≡ vis
+  unfolding hidden-the_row-TStmt-0 hidden-the_row-TStmt-1 hidden
+  while_still c a vis = refl
+
+  always_node : (f : List SlotType) (loop : Bool) (vis : List ℕ) (n : ℕ) (p : Spot) (ss : List made_stmt.TStmt) → has_type (Int KBool true) (slice_get f n) ≡ true → rows_test f loop (n ∷ vis) ss ≡ true → typed.stmt (among f) loop vis (s.Always n (made_stmt.roll-TStmt (record { spot = p; node = s.Block ss }))) ≡ true
+  unfolding hidden-the_row-TStmt-0 hidden-the_row-TStmt-1 hidden
+  always_node f loop vis n p ss h i = three h refl (rows_same f loop (n ∷ vis) ss ∙ i)
+
+  always_still : (n : ℕ) (a : made_stmt.TStmt) (vis : List ℕ) → visible.after_node vis (s.Always n a) ≡ vis
+  unfolding hidden-the_row-TStmt-0 hidden-the_row-TStmt-1 hidden
+  always_still n a vis = refl
+
+  for_node : (f : List SlotType) (loop : Bool) (vis : List ℕ) (i : made_init.TForInit) (c v : Option TExpr) (a : made_stmt.TStmt) → typed.header (among f) vis i ≡ true → typed.maybe (typed.condition (among f) (visible.after_header vis i)) c ≡ true → typed.maybe (typed.valued (among f) (visible.after_header vis i)) v ≡ true → typed.stmt (among f) true (visible.after_header vis i) a.node ≡ true → typed.stmt (among f) loop vis (s.For i c v a) ≡ true
+  unfolding hidden-the_row-TStmt-0 hidden-the_row-TStmt-1 hidden
+  for_node f loop vis i c v a h j k l = both (three h j k) l
+
+  for_still : (i : made_init.TForInit) (c v : Option TExpr) (a : made_stmt.TStmt) (vis : List ℕ) → visible.after_node vis (s.For i c v a) ≡ vis
+  unfolding hidden-the_row-TStmt-0 hidden-the_row-TStmt-1 hidden
+  for_still i c v a vis = refl
+
+  scoped_ok : {A : Type 0} (P Q : A × Scope → Type 0) (m : Walk A) (z : Scope) → IfOk (m (record z { level = z.level + 1 })) P → ((a : A) (t : Scope) → P (a, t) → Q (a, record { seen = z.seen; slots = t.slots; level = z.level })) → IfOk (scoped m z) Q
+  unfolding next
+  scoped_ok {A} P Q m z h f = on (m (record z { level = z.level + 1 })) h
+    where
+      on : (x : Judged (A × Scope)) → IfOk x P → IfOk (next {B = A × Scope} x (λ q. Ok (q.0, record { seen = z.seen; slots = q.1.slots; level = z.level }))) Q
+      on (Ok x) h = f x.0 x.1 h
+      on (Err b) h = tt
+
+  abbrev UsedIn : Scope → TExpr → Type 0
+  UsedIn z v = (f : List SlotType) (vis : List ℕ) → Sees vis z.seen f → not (is_nothing v.ty) ≡ true
+
+  abbrev PassedOption : Scope → Option TExpr → Type 0
+  PassedOption z None = Unit {0}
+  PassedOption z (Some v) = Passed z v × UsedIn z v
+
+  with_used : {B : Type 0} (Q : B × Scope → Type 0) (e : Expr) (k : TExpr → Walk B) (z : Scope) → Grammatical e.node → ((v : TExpr) → Passed z v → UsedIn z v → IfOk (k v z) Q) → IfOk (bind (value_in r e) k z) Q
+  unfolding next typed_value
+  with_used {B} Q e k z h f = on (typed_value (at r z) e) (λ l vis i. value_fact e z l vis h i) (λ v q l vis a. value_used (at r z) e.spot e.node v q (among l) vis a) f
+    where
+      on : (m : Judged TExpr) → ((l : List SlotType) (vis : List ℕ) → Sees vis z.seen l → IfOk m (λ v. alone (among l) vis v ≡ true)) → ((v : TExpr) → m ≡ Ok v → (l : List SlotType) (vis : List ℕ) → alone (among l) vis v ≡ true → not (is_nothing v.ty) ≡ true) → ((v : TExpr) → Passed z v → UsedIn z v → IfOk (k v z) Q) → IfOk (next {A = TExpr × Scope} (next m (λ v. Ok (v, z))) (λ x. k x.0 x.1)) Q
+      on (Ok v) i j f = f v i (λ l vis s. j v refl l vis (i l vis s))
+      on (Err b) i j f = tt
+
+  with_optional : {B : Type 0} (Q : B × Scope → Type 0) (o : Option Expr) (k : Option TExpr → Walk B) (z : Scope) → GrammaticalOption o → ((y : Option TExpr) → PassedOption z y → IfOk (k y z) Q) → IfOk (bind (optional_in r o) k z) Q
+  unfolding next
+  with_optional Q None k z h f = f None tt
+  with_optional {B} Q (Some e) k z h f =
+      with_part (λ q. (v : TExpr) × (q.0 ≡ Some v) × (q.1 ≡ z) × PassedOption z (Some v)) Q (optional_in r (Some e)) k z
+      (with_used (λ q. (v : TExpr) × (q.0 ≡ Some v) × (q.1 ≡ z) × PassedOption z (Some v)) e (λ v. pure (Some v)) z h (λ v i j. (v, refl, refl, (i, j))))
+      (λ a t q. subst (λ t. IfOk (k a t) Q) (sym q.2) (subst (λ a. IfOk (k a z) Q) (sym q.1) (f (Some q.0) q.3)))
+
+  public_option : Option TExpr → Type 0
+  public_option None = Unit {0}
+  public_option (Some v) = test.is_public v.ty ≡ true
+
+  with_condition : {B : Type 0} (Q : B × Scope → Type 0) (p : Spot) (o : Option TExpr) (k : Walk B) (z : Scope) → ((v : TExpr) → o ≡ Some v → test.is_public v.ty ≡ true → Unit {0}) → (((v : TExpr) → o ≡ Some v → test.is_public v.ty ≡ true) → IfOk (k z) Q) → IfOk (bind (ask (walk.condition p o)) (λ _. k) z) Q
+  unfolding next
+  with_condition Q p None k z u f = f (λ v q. absurd (none_some q))
+  with_condition Q p (Some v) k z u f = with_public Q p v.ty k z (λ c. f (λ w q. subst (λ w. test.is_public w.ty ≡ true) (some_is q) c))
+
+  pub record DoneHeader (z : Scope) (i : made_init.TForInit) (t : Scope) : Type 0 where
+    pub grows : (f : List SlotType) → Goes t.slots f → Goes z.slots f
+    pub test : (f : List SlotType) (vis : List ℕ) → Goes t.slots f → Sees vis z.seen f → typed.header (among f) vis i ≡ true
+    pub sees : (f : List SlotType) (vis : List ℕ) → Goes t.slots f → Sees vis z.seen f → Sees (visible.after_header vis i) t.seen f
+
+  header_done : (i : ForInit) (z : Scope) → GrammaticalHeader i → IfOk (walk.header r i z) (λ q. DoneHeader z q.0 q.1)
+  header_done begin.Nothing z h = record { grows = λ f e. e; test = λ f vis e i. refl; sees = λ f vis e i. i }
+  header_done (begin.Declare ds) z h =
+      with_part (λ q. DoneAll z q.0 q.1) (λ q. DoneHeader z q.0 q.1) (declare_all r ds) (λ xs. pure (init.Declare xs)) z (declare_all_done ds z h) (λ xs t a. record { grows = a.grows; test = a.test; sees = a.sees })
+  header_done (begin.Express e) z h =
+      with_used (λ q. DoneHeader z q.0 q.1) e (λ v. pure (init.Express v)) z h (λ v i n. record { grows = λ f e. e; test = λ f vis e j. both (n f vis j) (i f vis j); sees = λ f vis e j. j })
+
+  maybe_condition : (f : List SlotType) (vis : List ℕ) (z : Scope) (o : Option TExpr) → PassedOption z o → ((v : TExpr) → o ≡ Some v → test.is_public v.ty ≡ true) → Sees vis z.seen f → typed.maybe (typed.condition (among f) vis) o ≡ true
+  maybe_condition f vis z None h i j = refl
+  maybe_condition f vis z (Some v) h i j = both (i v refl) (h.0 f vis j)
+
+  maybe_value : (f : List SlotType) (vis : List ℕ) (z : Scope) (o : Option TExpr) → PassedOption z o → Sees vis z.seen f → typed.maybe (typed.valued (among f) vis) o ≡ true
+  maybe_value f vis z None h j = refl
+  maybe_value f vis z (Some v) h j = both (h.1 f vis j) (h.0 f vis j)
+
+  hidden_last : (o : Bool) → (not o || true) ≡ true
+  hidden_last true = refl
+  hidden_last false = refl
+
+  -- a statement with a scope of its own, before its names end
+  pub record Inner (loop : Bool) (z : Scope) (x : made_stmt.TStmt) (t : Scope) : Type 0 where
+    pub grows : (f : List SlotType) → Goes t.slots f → Goes z.slots f
+    pub test : (f : List SlotType) (vis : List ℕ) → Goes t.slots f → Sees vis z.seen f → typed.stmt (among f) loop vis x.node ≡ true
+    pub still : (vis : List ℕ) → visible.after_node vis x.node ≡ vis
+
+  pub record DoneBlock (loop : Bool) (z : Scope) (xs : List made_stmt.TStmt) (t : Scope) : Type 0 where
+    pub grows : (f : List SlotType) → Goes t.slots f → Goes z.slots f
+    pub test : (f : List SlotType) (vis : List ℕ) → Goes t.slots f → Sees vis z.seen f → rows_test f loop vis xs ≡ true
+    pub sees : t.seen ≡ z.seen
+
+  from_inner : (d loop : Bool) (z : Scope) (x : made_stmt.TStmt) (t : Scope) → Inner loop z x t → Done d loop z x (record { seen = z.seen; slots = t.slots; level = z.level })
+  from_inner d loop z x t h = record { grows = h.grows; test = h.test; sees = λ f vis e i. subst (λ v. Sees v z.seen f) (sym (h.still vis)) i; still = λ q vis. h.still vis }
+
+  returned_done : (loop : Bool) (p : Spot) (o : Option TExpr) (z : Scope) → PassedOption z o → IfOk (bind (ask (walk.returned r p o)) (λ x. walk.made p (s.Return x)) z) (λ q. Done false loop z q.0 q.1)
+  unfolding next
+  returned_done loop p None z h = on (is_nothing r.result) (λ q. subst (λ u. is_nothing u ≡ true) around.same_result q)
+    where
+      on : (b : Bool) → (b ≡ true → is_nothing g.result ≡ true) → IfOk (next {A = Option TExpr × Scope} (next {A = Option TExpr} (next {A = Unit {0}} (needs p T3 b) (λ _. Ok None)) (λ a. Ok (a, z))) (λ x. walk.made p (s.Return x.0) x.1)) (λ q. Done false loop z q.0 q.1)
+      on true f = record { grows = λ l e. e; test = λ l vis e i. f refl; sees = λ l vis e i. i; still = λ q vis. refl }
+      on false f = tt
+  returned_done loop p (Some v) z h = on (not (is_nothing r.result)) (λ q. subst (λ u. not (is_nothing u) ≡ true) around.same_result q)
+    where
+      on : (b : Bool) → (b ≡ true → not (is_nothing g.result) ≡ true) → IfOk (next {A = Option TExpr × Scope} (next {A = Option TExpr} (next {A = Unit {0}} (needs p T3 b) (λ _. next (lookup.convert r.result v) (λ x. Ok (Some x)))) (λ a. Ok (a, z))) (λ x. walk.made p (s.Return x.0) x.1)) (λ q. Done false loop z q.0 q.1)
+      on false f = tt
+      on true f = give (judging.converts v.ty r.result) (judging.converts (judging.bare v.ty) (judging.bare r.result)) (λ c. turned_value z r.result v (subst (λ u. is_type g.sizes g.public u ≡ true) (sym around.same_result) (around.back (f refl))) h.0 c)
+        where
+          give : (c d : Bool) → (c ≡ true → Turned z r.result (lookup.converted r.result v)) → IfOk (next {A = Option TExpr × Scope} (next {A = Option TExpr} (next {A = TExpr} (next {A = Unit {0}} (if c then Ok (tt {0}) else if d then breaks v.spot T4 else breaks v.spot T3) (λ _. Ok (lookup.converted r.result v))) (λ x. Ok (Some x))) (λ a. Ok (a, z))) (λ x. walk.made p (s.Return x.0) x.1)) (λ q. Done false loop z q.0 q.1)
+          give true d t = record { grows = λ l e. e; test = λ l vis e i. let w = t refl l vis i in three (f refl) (subst (λ u. same true u g.result ≡ true) (sym (w.ty ∙ around.same_result)) (type_itself g.result)) w.good; sees = λ l vis e i. i; still = λ q vis. refl }
+          give false true t = tt
+          give false false t = tt
+
+  always_done : (loop : Bool) (p q : Spot) (x : List ℕ) (z : Scope) (ss : List made_stmt.TStmt) (t : Scope) → DoneBlock loop (add x (Int KBool true) false z) ss t → Inner loop z (made_stmt.roll-TStmt (record { spot = p; node = s.Always (length z.slots) (made_stmt.roll-TStmt (record { spot = q; node = s.Block ss })) })) t
+  always_done loop p q x z ss t h = record {
+    grows = λ f e. goes_back z.slots f (record { ty = Int KBool true; frozen = false }) (h.grows f e);
+    test = λ f vis e i. always_node f loop vis (length z.slots) q ss (has_itself (Int KBool true) false _ (there z.slots f (record { ty = Int KBool true; frozen = false }) (h.grows f e))) (h.test f (length z.slots ∷ vis) e (sees_more z f vis x (Int KBool true) false refl (h.grows f e) i));
+    still = λ vis. always_still (length z.slots) (made_stmt.roll-TStmt (record { spot = q; node = s.Block ss })) vis;
+  }
+
+  part_of : (d loop : Bool) (z : Scope) (m : Judged (made_stmt.TStmt × Scope)) → d ≡ false → IfOk m (λ q. Done d loop z q.0 q.1) → IfOk m (λ q. DonePart loop z q.0 q.1)
+  part_of d loop z (Ok x) q h = as_part d loop z x.0 x.1 q h
+  part_of d loop z (Err b) q h = tt
+
+  rows_none : (loop : Bool) (z : Scope) → DoneRows loop z [] z
+  rows_none loop z = record { grows = λ f e. e; test = λ f vis e i. refl }
+
+  rows_more : (d loop : Bool) (z : Scope) (m : Walk made_stmt.TStmt) (rest : Walk (List made_stmt.TStmt)) → IfOk (m z) (λ q. Done d loop z q.0 q.1) → ((t : Scope) → IfOk (rest t) (λ q. DoneRows loop t q.0 q.1)) → IfOk (bind m (λ x. bind rest (λ xs. pure (x ∷ xs))) z) (λ q. DoneRows loop z q.0 q.1)
+  rows_more d loop z m rest h f =
+      with_part (λ q. Done d loop z q.0 q.1) (λ q. DoneRows loop z q.0 q.1) m (λ x. bind rest (λ xs. pure (x ∷ xs))) z h (λ x t a.
+      with_part (λ q. DoneRows loop t q.0 q.1) (λ q. DoneRows loop z q.0 q.1) rest (λ xs. pure (x ∷ xs)) t (f t) (λ xs w b. record {
+        grows = λ l e. a.grows l (b.grows l e);
+        test = λ l vis e i. both (a.test l vis (b.grows l e) i) (b.test l (visible.after_node vis x.node) e (a.sees l vis (b.grows l e) i));
+      }))
+
+  header_level : (i : ForInit) (z : Scope) → GrammaticalHeader i → IfOk (walk.header r i (record z { level = z.level + 1 })) (λ q. DoneHeader z q.0 q.1)
+  header_level i z h = weaker (walk.header r i (record z { level = z.level + 1 })) (header_done i (record z { level = z.level + 1 }) h)
+    where
+      weaker : (m : Judged (made_init.TForInit × Scope)) → IfOk m (λ q. DoneHeader (record z { level = z.level + 1 }) q.0 q.1) → IfOk m (λ q. DoneHeader z q.0 q.1)
+      weaker (Ok x) h = record { grows = h.grows; test = h.test; sees = h.sees }
+      weaker (Err b) h = tt
+
+  inner_level : (loop : Bool) (p q : Spot) (x : List ℕ) (z : Scope) (ss : List made_stmt.TStmt) (t : Scope) → DoneBlock loop (add x (Int KBool true) false (record z { level = z.level + 1 })) ss t → Inner loop z (made_stmt.roll-TStmt (record { spot = p; node = s.Always (length z.slots) (made_stmt.roll-TStmt (record { spot = q; node = s.Block ss })) })) t
+  inner_level loop p q x z ss t h =
+      let k = always_done loop p q x (record z { level = z.level + 1 }) ss t h in
+      record { grows = k.grows; test = k.test; still = k.still }
+
+  mutual
+    unfolding next
+    pub stmt_done : (c : StmtNode) (loop : Bool) (p : Spot) (z : Scope) → GrammaticalStmt c → IfOk (walk.stmt r loop p c z) (λ q. Done (is_declaration c) loop z q.0 q.1)
+    stmt_done (Declare ds) loop p z h =
+        with_part (λ q. DoneAll z q.0 q.1) (λ q. Done true loop z q.0 q.1) (declare_all r ds) (λ xs. walk.made p (s.Declare xs)) z (declare_all_done ds z h)
+        (λ xs t a. record { grows = a.grows; test = a.test; sees = a.sees; still = λ q vis. never (sym q) })
+    stmt_done (Express e) loop p z h =
+        with_alone (λ q. Done false loop z q.0 q.1) e (λ v. walk.made p (s.Express v)) z h (λ v i. record { grows = λ f e. e; test = λ f vis e j. i f vis j; sees = λ f vis e j. j; still = λ q vis. refl })
+    stmt_done (Block' _ ss) loop p z h =
+        with_part (λ q. DoneBlock loop z q.0 q.1) (λ q. Done false loop z q.0 q.1) (scoped (walk.stmts r loop ss)) (λ xs. walk.made p (s.Block xs)) z (block_done ss loop z h)
+        (λ xs t a. record { grows = a.grows; test = λ f vis e i. block_node f loop vis xs (a.test f vis e i); sees = λ f vis e i. subst (λ v. Sees v t.seen f) (sym (block_still xs vis)) (subst (λ l. Sees vis l f) (sym a.sees) i); still = λ q vis. block_still xs vis })
+    stmt_done (If' c _ y n) loop p z h =
+        with_value (λ q. Done false loop z q.0 q.1) c (λ v. bind (ask (public_integer p v.ty)) (λ _. bind (walk.part r loop y) (λ a. bind (walk.other r loop n) (λ b. walk.made p (s.If v a b))))) z h.0 (λ v i.
+        with_public (λ q. Done false loop z q.0 q.1) p v.ty (bind (walk.part r loop y) (λ a. bind (walk.other r loop n) (λ b. walk.made p (s.If v a b)))) z (λ k.
+        with_part (λ q. DonePart loop z q.0 q.1) (λ q. Done false loop z q.0 q.1) (walk.part r loop y) (λ a. bind (walk.other r loop n) (λ b. walk.made p (s.If v a b))) z (part_done y loop z h.1) (λ a t d.
+        with_part (λ q. DoneOther loop t q.0 q.1) (λ q. Done false loop z q.0 q.1) (walk.other r loop n) (λ b. walk.made p (s.If v a b)) t (other_done n loop t h.2) (λ o w b. record {
+          grows = λ f e. d.grows f (b.grows f e);
+          test = λ f vis e j. if_node f loop vis v a o (both k (i f vis j)) (d.test f vis (b.grows f e) j) (b.test f vis e (d.sees f vis (b.grows f e) j));
+          sees = λ f vis e j. subst (λ u. Sees u w.seen f) (sym (if_still v a o vis)) (b.sees f vis e (d.sees f vis (b.grows f e) j));
+          still = λ q vis. if_still v a o vis;
+        }))))
+    stmt_done (OblivIf' c _ y n) loop p z h =
+        with_value (λ q. Done false loop z q.0 q.1) c (λ v. bind (ask (needs p T3 (judging.is_integer v.ty))) (λ _. bind (walk.part r loop y) (λ a. bind (walk.other r loop n) (λ b. walk.made p (s.OblivIf (lookup.converted (Int KBool true) v) a b))))) z h.0 (λ v i.
+        with_needs (λ q. Done false loop z q.0 q.1) p T3 (judging.is_integer v.ty) (bind (walk.part r loop y) (λ a. bind (walk.other r loop n) (λ b. walk.made p (s.OblivIf (lookup.converted (Int KBool true) v) a b)))) z (λ k.
+        with_part (λ q. DonePart loop z q.0 q.1) (λ q. Done false loop z q.0 q.1) (walk.part r loop y) (λ a. bind (walk.other r loop n) (λ b. walk.made p (s.OblivIf (lookup.converted (Int KBool true) v) a b))) z (part_done y loop z h.1) (λ a t d.
+        with_part (λ q. DoneOther loop t q.0 q.1) (λ q. Done false loop z q.0 q.1) (walk.other r loop n) (λ b. walk.made p (s.OblivIf (lookup.converted (Int KBool true) v) a b)) t (other_done n loop t h.2) (λ o w b. record {
+          grows = λ f e. d.grows f (b.grows f e);
+          test = λ f vis e j. hidden_node f loop vis (lookup.converted (Int KBool true) v) a o (int_good (among f) vis KBool true v (i f vis j) k (hidden_last (judging.is_hidden v.ty))) (d.test f vis (b.grows f e) j) (b.test f vis e (d.sees f vis (b.grows f e) j));
+          sees = λ f vis e j. subst (λ u. Sees u w.seen f) (sym (hidden_still (lookup.converted (Int KBool true) v) a o vis)) (b.sees f vis e (d.sees f vis (b.grows f e) j));
+          still = λ q vis. hidden_still (lookup.converted (Int KBool true) v) a o vis;
+        }))))
+    stmt_done (Always' x _ (more_of-Stmt q (Block' _ ss) rest)) loop p z h =
+        scoped_ok (λ y. Inner loop z y.0 y.1) (λ y. Done false loop z y.0 y.1) (bind (walk.name_mark x) (λ n. bind (walk.part r loop (more_of-Stmt q (Block' _ ss) rest)) (λ a. walk.made p (s.Always n a)))) z
+        (with_part (λ y. (xs : List made_stmt.TStmt) × (y.0 ≡ made_stmt.roll-TStmt (record { spot = q; node = s.Block xs })) × DoneBlock loop (add x (Int KBool true) false (record z { level = z.level + 1 })) xs y.1) (λ y. Inner loop z y.0 y.1) (walk.part r loop (more_of-Stmt q (Block' _ ss) rest)) (λ a. walk.made p (s.Always (length z.slots) a)) (add x (Int KBool true) false (record z { level = z.level + 1 }))
+        (with_part (λ y. DoneBlock loop (add x (Int KBool true) false (record z { level = z.level + 1 })) y.0 y.1) (λ y. (xs : List made_stmt.TStmt) × (y.0 ≡ made_stmt.roll-TStmt (record { spot = q; node = s.Block xs })) × DoneBlock loop (add x (Int KBool true) false (record z { level = z.level + 1 })) xs y.1) (scoped (walk.stmts r loop ss)) (λ xs. walk.made q (s.Block xs)) (add x (Int KBool true) false (record z { level = z.level + 1 })) (block_done ss loop (add x (Int KBool true) false (record z { level = z.level + 1 })) h) (λ xs t b. (xs, refl, b)))
+        (λ a t b. subst (λ a. Inner loop z (made_stmt.roll-TStmt (record { spot = p; node = s.Always (length z.slots) a })) t) (sym b.1) (inner_level loop p q x z b.0 t b.2)))
+        (λ a t b. from_inner false loop z a t b)
+    stmt_done (Always' x _ _) loop p z h = absurd h
+    stmt_done (While' c _ b) loop p z h =
+        with_value (λ q. Done false loop z q.0 q.1) c (λ v. bind (ask (public_integer p v.ty)) (λ _. bind (walk.part r true b) (λ a. walk.made p (s.While v a)))) z h.0 (λ v i.
+        with_public (λ q. Done false loop z q.0 q.1) p v.ty (bind (walk.part r true b) (λ a. walk.made p (s.While v a))) z (λ k.
+        with_part (λ q. DonePart true z q.0 q.1) (λ q. Done false loop z q.0 q.1) (walk.part r true b) (λ a. walk.made p (s.While v a)) z (part_done b true z h.1) (λ a t d. record {
+          grows = d.grows;
+          test = λ f vis e j. while_node f loop vis v a (both k (i f vis j)) (d.test f vis e j);
+          sees = λ f vis e j. subst (λ u. Sees u t.seen f) (sym (while_still v a vis)) (d.sees f vis e j);
+          still = λ q vis. while_still v a vis;
+        })))
+    stmt_done (For' i c v _ b) loop p z h =
+        scoped_ok (λ y. Inner loop z y.0 y.1) (λ y. Done false loop z y.0 y.1) (bind (walk.header r i) (λ x. bind (optional_in r c) (λ y. bind (optional_in r v) (λ w. bind (ask (walk.condition p y)) (λ _. bind (walk.part r true b) (λ a. walk.made p (s.For x y w a))))))) z
+        (with_part (λ y. DoneHeader z y.0 y.1) (λ y. Inner loop z y.0 y.1) (walk.header r i) (λ x. bind (optional_in r c) (λ y. bind (optional_in r v) (λ w. bind (ask (walk.condition p y)) (λ _. bind (walk.part r true b) (λ a. walk.made p (s.For x y w a)))))) (record z { level = z.level + 1 }) (header_level i z h.0) (λ x t d.
+        with_optional (λ y. Inner loop z y.0 y.1) c (λ y. bind (optional_in r v) (λ w. bind (ask (walk.condition p y)) (λ _. bind (walk.part r true b) (λ a. walk.made p (s.For x y w a))))) t h.1 (λ y j.
+        with_optional (λ y. Inner loop z y.0 y.1) v (λ w. bind (ask (walk.condition p y)) (λ _. bind (walk.part r true b) (λ a. walk.made p (s.For x y w a)))) t h.2 (λ w k.
+        with_condition (λ y. Inner loop z y.0 y.1) p y (bind (walk.part r true b) (λ a. walk.made p (s.For x y w a))) t (λ _ _ _. tt) (λ l.
+        with_part (λ y. DonePart true t y.0 y.1) (λ y. Inner loop z y.0 y.1) (walk.part r true b) (λ a. walk.made p (s.For x y w a)) t (part_done b true t h.3) (λ a m n. record {
+          grows = λ f e. d.grows f (n.grows f e);
+          test = λ f vis e o. let see = d.sees f vis (n.grows f e) o in for_node f loop vis x y w a (d.test f vis (n.grows f e) o) (maybe_condition f (visible.after_header vis x) t y j l see) (maybe_value f (visible.after_header vis x) t w k see) (n.test f (visible.after_header vis x) e see);
+          still = λ vis. for_still x y w a vis;
+        }))))))
+        (λ a t q. from_inner false loop z a t q)
+    stmt_done (Return e) loop p z h = with_optional (λ q. Done false loop z q.0 q.1) e (λ v. bind (ask (walk.returned r p v)) (λ x. walk.made p (s.Return x))) z h (λ y i. returned_done loop p y z i)
+    stmt_done Break loop p z h = with_needs (λ q. Done false loop z q.0 q.1) p T12 loop (walk.made p s.Break) z (λ k. record { grows = λ f e. e; test = λ f vis e j. k; sees = λ f vis e j. j; still = λ q vis. refl })
+    stmt_done Continue loop p z h = with_needs (λ q. Done false loop z q.0 q.1) p T12 loop (walk.made p s.Continue) z (λ k. record { grows = λ f e. e; test = λ f vis e j. k; sees = λ f vis e j. j; still = λ q vis. refl })
+    stmt_done Empty loop p z h = record { grows = λ f e. e; test = λ f vis e j. refl; sees = λ f vis e j. j; still = λ q vis. refl }
+
+    part_done : (c : Row_of-Stmt 1) (loop : Bool) (z : Scope) → GrammaticalPart c → IfOk (walk.part r loop c z) (λ q. DonePart loop z q.0 q.1)
+    part_done (more_of-Stmt p n rest) loop z h = part_of (is_declaration n) loop z (walk.stmt r loop p n z) h.0 (stmt_done n loop p z h.1)
+
+    other_done : (c : Held-StmtNode-If-2) (loop : Bool) (z : Scope) → GrammaticalOther c → IfOk (walk.other r loop c z) (λ q. DoneOther loop z q.0 q.1)
+    other_done None' loop z h = record { grows = λ f e. e; test = λ f vis e i. tt; sees = λ f vis e i. i }
+    other_done (Some' _ y) loop z h = with_part (λ q. DonePart loop z q.0 q.1) (λ q. DoneOther loop z q.0 q.1) (walk.part r loop y) (λ x. pure (Some x)) z (part_done y loop z h) (λ x t a. record { grows = a.grows; test = a.test; sees = a.sees })
+
+    block_done : {m : _} (c : Row_of-Stmt m) (loop : Bool) (z : Scope) → GrammaticalRows c → IfOk (scoped (walk.stmts r loop c) z) (λ q. DoneBlock loop z q.0 q.1)
+    block_done end_of-Stmt loop z h = scoped_ok (λ q. DoneRows loop (record z { level = z.level + 1 }) q.0 q.1) (λ q. DoneBlock loop z q.0 q.1) (walk.stmts r loop end_of-Stmt) z (rows_none loop (record z { level = z.level + 1 })) (λ a t q. record { grows = q.grows; test = q.test; sees = refl })
+    block_done (more_of-Stmt p n rest) loop z h = scoped_ok (λ q. DoneRows loop (record z { level = z.level + 1 }) q.0 q.1) (λ q. DoneBlock loop z q.0 q.1) (walk.stmts r loop (more_of-Stmt p n rest)) z (rows_more (is_declaration n) loop (record z { level = z.level + 1 }) (walk.stmt r loop p n) (walk.stmts r loop rest) (stmt_done n loop p (record z { level = z.level + 1 }) h.0) (λ t. rows_done rest loop t h.1)) (λ a t q. record { grows = q.grows; test = q.test; sees = refl })
+
+    rows_done : {m : _} (c : Row_of-Stmt m) (loop : Bool) (z : Scope) → GrammaticalRows c → IfOk (walk.stmts r loop c z) (λ q. DoneRows loop z q.0 q.1)
+    rows_done end_of-Stmt loop z h = rows_none loop z
+    rows_done (more_of-Stmt p n rest) loop z h = rows_more (is_declaration n) loop z (walk.stmt r loop p n) (walk.stmts r loop rest) (stmt_done n loop p z h.0) (λ t. rows_done rest loop t h.1)
+
+pub statements_typed : StatementsAreTyped
+statements_typed r g c loop p z around h = shown (walk.stmt r loop p c z) (stmt_done r g around c loop p z h)
+  where
+    shown : (m : Judged (made_stmt.TStmt × Scope)) → IfOk m (λ q. Done r g around (is_declaration c) loop z q.0 q.1) → IfOk m (λ q. (f : List SlotType) (vis : List ℕ) → Goes q.1.slots f → SeesAll g vis z.seen f → typed.stmt (record g { slots = f }) loop vis q.0.node ≡ true)
+    shown (Ok x) h = h.test
+    shown (Err b) h = tt

@@ -1,0 +1,3 @@
+pub mod Grammatical
+pub mod Agreeing
+pub mod Laws

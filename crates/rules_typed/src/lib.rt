@@ -1,0 +1,14 @@
+//! What the rules of typing give passes the test of typed trees.
+#![tactic(auto)]
+
+ghost use Rattle.rules_typed.specs.Laws.{ExpressionsAreTyped, StatementsAreTyped};
+
+/// What the rules give for an expression passes the test, where each name means the same to both.
+pub fn expressions_are_typed()
+    ensures { ExpressionsAreTyped }
+{}
+
+/// So does what they give for a statement.
+pub fn statements_are_typed()
+    ensures { StatementsAreTyped }
+{}
