@@ -1,23 +1,19 @@
 -- Each rule on a node gives what passes the test, of parts that pass it.
-use Rattle.std.proofs.Common.{ℕ, ◌≡◌, List, Option, Some, None, Ok, refl, sym, ap, ◌∙◌, subst, Bool, true, false, nat_eq, arith, pos}
-use Rattle.std.specs.Prelude.{◌&&◌, ◌||◌, not, if◌then◌else◌, nat_le, nat_lt}
-use Rattle.std.proofs.lemmas.Bool.{false≢true}
+use Rattle.std.proofs.Common.{ℕ, ◌≡◌, List, Option, Some, None, Ok, refl, sym, ap, ◌∙◌, subst, Bool, true, false, nat_eq, pos, ◌+◌}
+use Rattle.std.specs.Prelude.{◌&&◌, ◌||◌, not, if◌then◌else◌, nat_lt}
 use Rattle.oc_values.specs.declared.integers.IntKind.{IntKind}
-use Rattle.oc_values.specs.declared.integers.IntKind.TheVariants.{Bool as KBool, I8, U8, I16, U16, I32, U32, I64, U64}
+use Rattle.oc_values.specs.declared.integers.IntKind.TheVariants.{Bool as KBool, I32}
 use Rattle.oc_values.specs.declared.integers.BinaryOp.{BinaryOp}
-use Rattle.oc_values.specs.declared.integers.BinaryOp.TheVariants.{Add, Sub, Less, LessEq, Greater, GreaterEq, Equal, NotEqual}
-use Rattle.oc_values.specs.Integers.{kind_of_result, width, is_signed}
+use Rattle.oc_values.specs.Integers.{width, is_signed}
 use Rattle.oc_values.specs.declared.integers.OneOp.{OneOp}
 use Rattle.oc_values.specs.declared.integers.OneOp.TheVariants.{Neg, Plus, Not, Flip}
-use Rattle.oc_values.specs.Kinds.{number_of_kind, same_kind, promoted, is_shift, result_kind}
+use Rattle.oc_values.specs.Kinds.{number_of_kind, same_kind, promoted, is_shift}
 use Rattle.oc_cells.specs.declared.types.CType.{CType, Int, Pointer', Array', Struct, Nothing, end_of-CType, more_of-CType}
-use Rattle.oc_cells.specs.Types.{alike, same, first_type, target, is_pointer, is_normal, is_normal_row, mark_allowed, holds_public, holds_public_row, is_integer, is_hidden, kind_of}
-use Rattle.oc_cells.proofs.Equal.{same_is, same_is_equal}
+use Rattle.oc_cells.specs.Types.{alike, same, target, is_pointer, is_normal, is_normal_row, mark_allowed, holds_public, holds_public_row, is_integer, is_hidden, kind_of}
+use Rattle.oc_cells.proofs.Equal.{same_is}
 use Rattle.oc_source.specs.declared.spot.Spot.{Spot}
 use Rattle.oc_typed.specs.declared.typed.TExpr.{TExpr}
 use Rattle.oc_typed.specs.declared.typed.TPlace.{TPlace}
-use Rattle.oc_typed.specs.declared.typed.TExprNode as t
-use Rattle.oc_typed.specs.declared.typed.TPlaceNode as place
 use Rattle.oc_typed.specs.declared.typed.TExprNode.TheBlock.{hidden-the_row-TExpr-0, hidden-the_row-TExpr-1, hidden-the_row-TPlace-2}
 use Rattle.oc_cells.specs.declared.types.CType.TheBlock.{hidden-the_row-CType-0}
 use denote.Hole.Carrier.{hidden}
@@ -30,45 +26,30 @@ use Rattle.type_rules.specs.declared.judging.Found.TheVariants.{Place, Value}
 use Rattle.type_rules.specs.declared.judging.TypeRule.{TypeRule}
 use Rattle.type_rules.specs.declared.judging.TypeRule.TheVariants.{T3, T4}
 use Rattle.type_rules.specs.Judging.{Judged, next, breaks, needs, demand, bare, both_integers}
-use Rattle.type_rules.specs.Judging as judging
 use Rattle.type_rules.specs.Lookup.{converted, convert, is, number, variable, value_of}
 use Rattle.type_rules.specs.Operators.{truth, negate, deny, logic, choice, result_of, arithmetic, operated, operate, follow, index, assigned, updated, working, sum_op, bump, refer, field_at, cast}
-use Rattle.oc_typed.specs.Static as static
 use Rattle.oc_typing.specs.Rules.{is_type, is_sized, is_whole, is_nothing, is_promoted, unary}
-use Rattle.oc_typing.specs.Rules as test
 use Rattle.oc_typing.specs.Typed.{Context, is_of_node, expr, alone}
-use Rattle.oc_typing.specs.Typed as typed
 use Rattle.rules_typed.specs.Agreeing.{Good, Passes, Valued, GoodVariable, GoodField}
-use Rattle.oc_values.specs.Kinds as kinds
 use Rattle.oc_source.specs.Literals.{is_literal_kind, holds}
 use Rattle.oc_typed.specs.declared.typed.TExprNode.{more_of-TExpr, end_of-TExpr}
-
-pub never : {P : Type 0} → false ≡ true → P
-never e = absurd (false≢true e)
-
-pub both : {a b : Bool} → a ≡ true → b ≡ true → (a && b) ≡ true
-both {a} {b} p q = subst (λ c. (c && b) ≡ true) (sym p) q
-
-pub three : {a b c : Bool} → a ≡ true → b ≡ true → c ≡ true → (a && b && c) ≡ true
-three p q r = both (both p q) r
-
-pub first : (a b : Bool) → (a && b) ≡ true → a ≡ true
-first true b e = refl
-first false b e = never e
-
-pub second : (a b : Bool) → (a && b) ≡ true → b ≡ true
-second true b e = e
-second false b e = never e
-
-itself : (u : CType) → same true u u ≡ true
-itself u = (same_is_equal u u).itself refl
+use Rattle.oc_source.specs.declared.parsed.UnaryOp.TheVariants.{Neg, Plus, Not, Flip}
+use Rattle.oc_typed.specs.declared.typed.TExprNode as t
+use Rattle.oc_typed.specs.declared.typed.TPlaceNode as place
+use Rattle.type_rules.specs.Judging as judging
+use Rattle.oc_typed.specs.Static as static
+use Rattle.oc_typing.specs.Rules as test
+use Rattle.oc_typing.specs.Typed as typed
+use Rattle.oc_values.specs.Kinds as kinds
+use Rattle.rules_typed.proofs.Bools.{both, either, first, last, leads, left_marked, marked, never, not_back, number_itself, one_of, others, right_marked, second, three, turned}
+use Rattle.rules_typed.proofs.Types.{alike_itself, changes, common_over, compared_kind, held_of, itself, no_add, no_address, no_sum, null_same, only_steps, plain_kind, promoted_is, public_test, step_test, sum_same, value_integer, value_marked}
 
 pub if_needs : (g : Context) (vis : List ℕ) (p : Spot) (r : TypeRule) (b : Bool) (k : Judged Found) → (b ≡ true → Passes g vis k) → Passes g vis (next (needs p r b) (λ _. k))
 unfolding next
 if_needs g vis p r true k f = f refl
 if_needs g vis p r false k f = tt
 
-if_demand : (g : Context) (vis : List ℕ) (p : Spot) (ok : CType → CType → Bool) (a b : CType) (k : Judged Found) → (ok a b ≡ true → Passes g vis k) → Passes g vis (next (demand p ok a b) (λ _. k))
+pub if_demand : (g : Context) (vis : List ℕ) (p : Spot) (ok : CType → CType → Bool) (a b : CType) (k : Judged Found) → (ok a b ≡ true → Passes g vis k) → Passes g vis (next (demand p ok a b) (λ _. k))
 unfolding next
 if_demand g vis p ok a b k f = at (ok a b) (ok (bare a) (bare b)) f
   where
@@ -76,148 +57,6 @@ if_demand g vis p ok a b k f = at (ok a b) (ok (bare a) (bare b)) f
     at true d f = f refl
     at false true f = tt
     at false false f = tt
-
--- Conversions.
-
-null_same : (g : Context) (u : CType) → is_of_node g u ≡ true → judging.is_null u ≡ true → test.is_null u ≡ true
-null_same g (Pointer' false v s) h i = i
-null_same g (Pointer' true v (more_of-CType Nothing end_of-CType)) h i = never h
-null_same g (Pointer' true v (more_of-CType (Int k o) end_of-CType)) h i = never i
-null_same g (Pointer' true v (more_of-CType (Pointer' f w s) end_of-CType)) h i = never i
-null_same g (Pointer' true v (more_of-CType (Array' n w s) end_of-CType)) h i = never i
-null_same g (Pointer' true v (more_of-CType (Struct n) end_of-CType)) h i = never i
-null_same g (Int k o) h i = never i
-null_same g (Array' n v s) h i = never i
-null_same g (Struct n) h i = never i
-null_same g Nothing h i = never i
-
-or_none : (a : Bool) → (a || false) ≡ true → a ≡ true
-or_none true h = refl
-or_none false h = h
-
-pub last : (a b : Bool) → b ≡ true → (a || b) ≡ true
-last true b h = refl
-last false b h = h
-
-pub either : (a b : Bool) → a ≡ true → (a || b) ≡ true
-either true b h = refl
-either false b h = never h
-
-number_itself : (n : ℕ) → nat_eq n n ≡ true
-number_itself n = grind arith
-
-plain_kind : (op : BinaryOp) (k : IntKind) → judging.is_comparison op ≡ false → (result_kind op k ≡ k) × (kind_of_result op k ≡ k)
-plain_kind Less k h = never (sym h)
-plain_kind LessEq k h = never (sym h)
-plain_kind Greater k h = never (sym h)
-plain_kind GreaterEq k h = never (sym h)
-plain_kind Equal k h = never (sym h)
-plain_kind NotEqual k h = never (sym h)
-plain_kind _ k h = (refl, refl)
-
-compared_kind : (op : BinaryOp) (k : IntKind) → judging.is_comparison op ≡ true → (result_kind op k ≡ KBool) × (kind_of_result op k ≡ I32)
-compared_kind Less k h = (refl, refl)
-compared_kind LessEq k h = (refl, refl)
-compared_kind Greater k h = (refl, refl)
-compared_kind GreaterEq k h = (refl, refl)
-compared_kind Equal k h = (refl, refl)
-compared_kind NotEqual k h = (refl, refl)
-compared_kind _ k h = never h
-
--- one of two that implies one of two
-either_null : (a b c : Bool) → (a ≡ true → b ≡ true) → (a || c) ≡ true → (b || c) ≡ true
-either_null true b c f h = subst (λ d. (d || c) ≡ true) (sym (f refl)) refl
-either_null false b c f h = last b c h
-
--- a conversion that changes something is one of integers or of pointers
-changes : (g : Context) (u y : CType) → is_of_node g u ≡ true → judging.converts u y ≡ true → same true u y ≡ false → test.converts u y ≡ true
-changes g (Int k true) (Int l true) h i s = refl
-changes g (Int k true) (Int l false) h i s = never i
-changes g (Int k false) (Int l q) h i s = refl
-changes g (Int k o) (Pointer' f v x) h i s = never (second (not (is_nothing (first_type x))) false (or_none _ i))
-changes g (Int k o) (Array' n v x) h i s = never i
-changes g (Int k o) (Struct n) h i s = never i
-changes g (Int k o) Nothing h i s = never i
-changes g (Pointer' f v x) (Int k o) h i s = never i
-changes g (Pointer' f v x) (Pointer' e w y) h i s =
-    either_null (judging.is_null (Pointer' f v x)) (test.is_null (Pointer' f v x)) (same false (Pointer' f v x) (Pointer' e w y)) (null_same g (Pointer' f v x) h) (second (not (is_nothing (first_type y))) (judging.is_null (Pointer' f v x) || same false (Pointer' f v x) (Pointer' e w y)) (or_none _ i))
-changes g (Pointer' f v x) (Array' n w y) h i s = never i
-changes g (Pointer' f v x) (Struct n) h i s = never i
-changes g (Pointer' f v x) Nothing h i s = never i
-changes g (Struct n) (Struct m) h i s = never (sym s ∙ i)
-changes g (Struct n) (Int k o) h i s = never i
-changes g (Struct n) (Pointer' f v x) h i s = never (second (not (is_nothing (first_type x))) false (or_none _ i))
-changes g (Struct n) (Array' m v x) h i s = never i
-changes g (Struct n) Nothing h i s = never i
-changes g (Array' n v x) (Int k o) h i s = never i
-changes g (Array' n v x) (Pointer' f w y) h i s = never (second (not (is_nothing (first_type y))) false (or_none _ i))
-changes g (Array' n v x) (Array' m w y) h i s = never i
-changes g (Array' n v x) (Struct m) h i s = never i
-changes g (Array' n v x) Nothing h i s = never i
-changes g Nothing (Int k o) h i s = never i
-changes g Nothing (Pointer' f w y) h i s = never (second (not (is_nothing (first_type y))) false (or_none _ i))
-changes g Nothing (Array' m w y) h i s = never i
-changes g Nothing (Struct m) h i s = never i
-changes g Nothing Nothing h i s = never i
-
-pub public_test : (u : CType) → judging.is_public u ≡ true → test.is_public u ≡ true
-public_test (Int k o) h = h
-public_test (Pointer' f v s) h = never h
-public_test (Array' n v s) h = never h
-public_test (Struct n) h = never h
-public_test Nothing h = never h
-
-not_null : (u : CType) → judging.leads u ≡ true → not (test.is_null u) ≡ true
-not_null (Pointer' false v s) h = h
-not_null (Pointer' true v s) h = refl
-not_null (Int k o) h = refl
-not_null (Array' n v s) h = refl
-not_null (Struct n) h = refl
-not_null Nothing h = refl
-
-step_test : (u y : CType) → judging.steps u y ≡ true → test.step u u y ≡ true
-step_test u y a =
-    both (both (both (itself u) (first (is_pointer u) (not (is_nothing (target u))) (first (judging.leads u) (judging.is_public y) a))) (not_null u (first (judging.leads u) (judging.is_public y) a))) (public_test y (second (judging.leads u) (judging.is_public y) a))
-
--- one of three that implies one of three, in another order
-turned : (a b c d e : Bool) → (a ≡ true → d ≡ true) → (b ≡ true → e ≡ true) → (a || b || c) ≡ true → (c || d || e) ≡ true
-turned true b true d e f k h = refl
-turned true b false d e f k h = either d e (f refl)
-turned false true true d e f k h = refl
-turned false true false d e f k h = last d e (k refl)
-turned false false true d e f k h = refl
-turned false false false d e f k h = never h
-
--- what is neither nothing nor `NULL` is a type
-leads : (n z a b : Bool) → (false || z || a) ≡ true → not n ≡ true → (a ≡ true → b ≡ true) → (z ≡ true → n ≡ true) → b ≡ true
-leads n true a b h k f e = never (subst (λ m. not m ≡ true) (e refl) k)
-leads n false a b h k f e = f h
-
-one_of : {P : Type 0} (a b c : Bool) → (a ≡ true → P) → (b ≡ true → P) → (c ≡ true → P) → (a || b || c) ≡ true → P
-one_of true b c f g h k = f refl
-one_of false true c f g h k = g refl
-one_of false false c f g h k = h k
-
-others : (a b c d : Bool) → a ≡ false → (a || b || c || d) ≡ true → (b || c || d) ≡ true
-others true b c d q k = never (sym q)
-others false b c d q k = k
-
-no_address : (u : CType) → is_pointer u ≡ true → judging.is_public u ≡ true → false ≡ true
-no_address (Pointer' f v s) h i = i
-no_address (Int k o) h i = h
-no_address (Array' n v s) h i = h
-no_address (Struct n) h i = h
-no_address Nothing h i = h
-
-no_sum : (op : BinaryOp) → judging.is_equality op ≡ true → (judging.is_add op || judging.is_minus op) ≡ false
-no_sum Equal h = refl
-no_sum NotEqual h = refl
-no_sum _ h = never h
-
-no_add : (op : BinaryOp) → judging.is_equality op ≡ true → judging.is_add op ≡ false
-no_add Equal h = refl
-no_add NotEqual h = refl
-no_add _ h = never h
 
 pub if_convert : (g : Context) (vis : List ℕ) (u : CType) (e : TExpr) (k : TExpr → Judged Found) → (judging.converts e.ty u ≡ true → Passes g vis (k (converted u e))) → Passes g vis (next (convert u e) k)
 unfolding next
@@ -227,91 +66,6 @@ if_convert g vis u e k f = at (judging.converts e.ty u) (judging.converts (bare 
     at true d f = f refl
     at false true f = tt
     at false false f = tt
-
-pub held_of : (u y : CType) → judging.converts u y ≡ true → test.is_held y ≡ true
-held_of u (Int k o) h = refl
-held_of u (Pointer' f v s) h = refl
-held_of u (Struct n) h = refl
-held_of u (Array' n v s) h = never (second (is_integer u) false (first (is_integer u && false) (not (is_hidden u) || false) (or_none _ (or_none _ h))))
-held_of u Nothing h = never (second (is_integer u) false (first (is_integer u && false) (not (is_hidden u) || false) (or_none _ (or_none _ h))))
-
-sum_same : (op : BinaryOp) → (judging.is_add op || judging.is_minus op) ≡ true → (test.is_addition op || judging.is_minus op) ≡ true
-sum_same Add h = refl
-sum_same Sub h = refl
-sum_same _ h = never h
-
-not_over : (a b : ℕ) → nat_lt a b ≡ true → nat_le a b ≡ true
-not_over a b h = grind arith
-
-not_self : (a : ℕ) → nat_le a a ≡ true
-not_self a = grind arith
-
--- the kind that two promoted kinds have in common has no lesser number than the first
-wider_over : (k l : IntKind) → is_promoted k ≡ true → is_promoted l ≡ true → nat_le (number_of_kind k) (number_of_kind (kinds.wider k l)) ≡ true
-wider_over I32 I32 h i = refl
-wider_over I32 U32 h i = refl
-wider_over I32 I64 h i = refl
-wider_over I32 U64 h i = refl
-wider_over U32 I32 h i = refl
-wider_over U32 U32 h i = refl
-wider_over U32 I64 h i = refl
-wider_over U32 U64 h i = refl
-wider_over I64 I32 h i = refl
-wider_over I64 U32 h i = refl
-wider_over I64 I64 h i = refl
-wider_over I64 U64 h i = refl
-wider_over U64 I32 h i = refl
-wider_over U64 U32 h i = refl
-wider_over U64 I64 h i = refl
-wider_over U64 U64 h i = refl
-wider_over KBool l h i = never h
-wider_over I8 l h i = never h
-wider_over U8 l h i = never h
-wider_over I16 l h i = never h
-wider_over U16 l h i = never h
-wider_over k l h i = never i
-
-promoted_is : (k : IntKind) → is_promoted (promoted k) ≡ true
-promoted_is KBool = refl
-promoted_is I8 = refl
-promoted_is U8 = refl
-promoted_is I16 = refl
-promoted_is U16 = refl
-promoted_is I32 = refl
-promoted_is U32 = refl
-promoted_is I64 = refl
-promoted_is U64 = refl
-
-common_over : (k m : IntKind) → nat_le (number_of_kind (promoted k)) (number_of_kind (judging.common k m)) ≡ true
-common_over k m = wider_over (promoted k) (promoted m) (promoted_is k) (promoted_is m)
-
--- of an update of an integer, and of another
-pointer_other : (u : CType) → is_integer u ≡ true → judging.leads u ≡ true → false ≡ true
-pointer_other (Int k o) h i = i
-pointer_other (Pointer' f v s) h i = h
-pointer_other (Array' n v s) h i = h
-pointer_other (Struct n) h i = h
-pointer_other Nothing h i = h
-
-either_way : {P : Type 0} (a b : Bool) → (a ≡ true → P) → (b ≡ true → P) → (a || b) ≡ true → P
-either_way true b f g k = f refl
-either_way false b f g k = g k
-
-as_integers : (op : BinaryOp) (u y : CType) → is_integer u ≡ true → judging.takes_update op u y ≡ true → (both_integers u y && (not (is_hidden y) || is_hidden u)) ≡ true
-as_integers op u y i k =
-    either_way (both_integers u y && (not (is_hidden y) || is_hidden u)) ((judging.is_add op || judging.is_minus op) && judging.steps u y) (λ a. a)
-    (λ b. never (pointer_other u i (first (judging.leads u) (judging.is_public y) (second (judging.is_add op || judging.is_minus op) (judging.steps u y) b)))) k
-
-value_integer : (op : BinaryOp) (u y : CType) → is_integer u ≡ true → judging.takes_update op u y ≡ true → is_integer y ≡ true
-value_integer op u y i k = second (is_integer u) (is_integer y) (first (both_integers u y) (not (is_hidden y) || is_hidden u) (as_integers op u y i k))
-
-value_marked : (op : BinaryOp) (u y : CType) → is_integer u ≡ true → judging.takes_update op u y ≡ true → (not (is_hidden y) || is_hidden u) ≡ true
-value_marked op u y i k = second (both_integers u y) (not (is_hidden y) || is_hidden u) (as_integers op u y i k)
-
-only_steps : (op : BinaryOp) (u y : CType) → is_integer u ≡ false → judging.takes_update op u y ≡ true → ((judging.is_add op || judging.is_minus op) && judging.steps u y) ≡ true
-only_steps op u y i k =
-    either_way (both_integers u y && (not (is_hidden y) || is_hidden u)) ((judging.is_add op || judging.is_minus op) && judging.steps u y)
-    (λ a. never (sym i ∙ first (is_integer u) (is_integer y) (first (both_integers u y) (not (is_hidden y) || is_hidden u) a))) (λ b. b) k
 
 -- whether a value is the number 1, as it stands or converted
 abbrev pub is_unit_value : TExpr → Bool
@@ -329,7 +83,7 @@ module _ (g : Context) (vis : List ℕ) where
   unfolding hidden-the_row-TExpr-0 hidden
   node_good u e h i c = both (of_node u i) (both c h)
 
-  converted_at : (b : Bool) (u : CType) (e : TExpr) → same true e.ty u ≡ b → alone g vis e ≡ true → of_type u ≡ true → judging.converts e.ty u ≡ true → Valued g vis u (if b then e else record { spot = e.spot; ty = u; node = t.Convert e })
+  pub converted_at : (b : Bool) (u : CType) (e : TExpr) → same true e.ty u ≡ b → alone g vis e ≡ true → of_type u ≡ true → judging.converts e.ty u ≡ true → Valued g vis u (if b then e else record { spot = e.spot; ty = u; node = t.Convert e })
   converted_at true u e q h i c = record { ty = same_is e.ty u q; good = h }
   converted_at false u e q h i c = record { ty = refl; good = node_good u e h i (changes g e.ty u (first (is_of_node g e.ty) (expr g vis false e.ty e.node) h) c q) }
 
@@ -337,7 +91,7 @@ module _ (g : Context) (vis : List ℕ) where
   converted_good u e h i c = converted_at (same true e.ty u) u e refl h i c
 
   -- between integers, where nothing hidden becomes public
-  converts_int : (u : CType) (l : IntKind) (q : Bool) → is_integer u ≡ true → (not (is_hidden u) || q) ≡ true → judging.converts u (Int l q) ≡ true
+  pub converts_int : (u : CType) (l : IntKind) (q : Bool) → is_integer u ≡ true → (not (is_hidden u) || q) ≡ true → judging.converts u (Int l q) ≡ true
   converts_int (Int k true) l true h i = refl
   converts_int (Int k true) l false h i = never i
   converts_int (Int k false) l q h i = refl
@@ -349,16 +103,12 @@ module _ (g : Context) (vis : List ℕ) where
   pub int_good : (l : IntKind) (q : Bool) (e : TExpr) → alone g vis e ≡ true → is_integer e.ty ≡ true → (not (is_hidden e.ty) || q) ≡ true → Valued g vis (Int l q) (converted (Int l q) e)
   int_good l q e h i m = converted_good (Int l q) e h refl (converts_int e.ty l q i m)
 
-  marked : (o : Bool) → (not o || o) ≡ true
-  marked true = refl
-  marked false = refl
-
-  unary_node : (p : Spot) (op : OneOp) (y u : CType) (c : TExpr) → of_type y ≡ true → Valued g vis u c → unary op y u ≡ true → alone g vis (record { spot = p; ty = y; node = t.Unary op c }) ≡ true
+  pub unary_node : (p : Spot) (op : OneOp) (y u : CType) (c : TExpr) → of_type y ≡ true → Valued g vis u c → unary op y u ≡ true → alone g vis (record { spot = p; ty = y; node = t.Unary op c }) ≡ true
   unfolding hidden-the_row-TExpr-0 hidden
   unary_node p op y u c i v h = both (of_node y i) (both (subst (λ w. unary op y w ≡ true) (sym v.ty) h) v.good)
 
   -- an integer's type, and the type of a truth value
-  of_truth : (o : Bool) → of_type (truth o) ≡ true
+  pub of_truth : (o : Bool) → of_type (truth o) ≡ true
   of_truth true = refl
   of_truth false = refl
 
@@ -374,7 +124,7 @@ module _ (g : Context) (vis : List ℕ) where
   flip_test k true = both (promoted_is k) (itself (Int (promoted k) true))
   flip_test k false = both (promoted_is k) (itself (Int (promoted k) false))
 
-  not_test : (o : Bool) → unary Not (truth o) (Int KBool o) ≡ true
+  pub not_test : (o : Bool) → unary Not (truth o) (Int KBool o) ≡ true
   not_test true = refl
   not_test false = refl
 
@@ -389,20 +139,11 @@ module _ (g : Context) (vis : List ℕ) where
 
   -- Two parts.
 
-  left_marked : (o q : Bool) → (not o || (o || q)) ≡ true
-  left_marked true q = refl
-  left_marked false q = refl
-
-  right_marked : (o q : Bool) → (not q || (o || q)) ≡ true
-  right_marked o false = refl
-  right_marked true true = refl
-  right_marked false true = refl
-
-  logic_test : (o : Bool) → test.logic (truth o) (Int KBool o) (Int KBool o) ≡ true
+  pub logic_test : (o : Bool) → test.logic (truth o) (Int KBool o) (Int KBool o) ≡ true
   logic_test true = refl
   logic_test false = refl
 
-  logic_node : (p : Spot) (every : Bool) (y u v : CType) (c d : TExpr) → of_type y ≡ true → Valued g vis u c → Valued g vis v d → test.logic y u v ≡ true → alone g vis (record { spot = p; ty = y; node = t.Logic every c d }) ≡ true
+  pub logic_node : (p : Spot) (every : Bool) (y u v : CType) (c d : TExpr) → of_type y ≡ true → Valued g vis u c → Valued g vis v d → test.logic y u v ≡ true → alone g vis (record { spot = p; ty = y; node = t.Logic every c d }) ≡ true
   unfolding hidden-the_row-TExpr-0 hidden
   logic_node p every y u v c d i m n h = both (of_node y i) (three (subst (λ w. test.logic y c.ty w ≡ true) (sym n.ty) (subst (λ w. test.logic y w v ≡ true) (sym m.ty) h)) m.good n.good)
 
@@ -412,41 +153,37 @@ module _ (g : Context) (vis : List ℕ) where
       (int_good KBool (is_hidden l.ty || is_hidden r.ty) l h (first (is_integer l.ty) (is_integer r.ty) b) (left_marked (is_hidden l.ty) (is_hidden r.ty)))
       (int_good KBool (is_hidden l.ty || is_hidden r.ty) r i (second (is_integer l.ty) (is_integer r.ty) b) (right_marked (is_hidden l.ty) (is_hidden r.ty))) (logic_test (is_hidden l.ty || is_hidden r.ty)))
 
-  wider_promoted : (k l : IntKind) → is_promoted k ≡ true → is_promoted l ≡ true → is_promoted (kinds.wider k l) ≡ true
+  pub wider_promoted : (k l : IntKind) → is_promoted k ≡ true → is_promoted l ≡ true → is_promoted (kinds.wider k l) ≡ true
   wider_promoted k l h i = at (nat_lt (width k) (width l) || (nat_eq (width k) (width l) && is_signed k))
     where
       at : (b : Bool) → is_promoted (if b then l else k) ≡ true
       at true = i
       at false = h
 
-  common_promoted : (k l : IntKind) → is_promoted (judging.common k l) ≡ true
+  pub common_promoted : (k l : IntKind) → is_promoted (judging.common k l) ≡ true
   common_promoted k l = wider_promoted (promoted k) (promoted l) (promoted_is k) (promoted_is l)
 
   -- operands of an operator that doesn't shift
-  binary_node : (p : Spot) (op : BinaryOp) (y u v : CType) (c d : TExpr) → of_type y ≡ true → Valued g vis u c → Valued g vis v d → test.binary op y u v ≡ true → alone g vis (record { spot = p; ty = y; node = t.Binary op c d }) ≡ true
+  pub binary_node : (p : Spot) (op : BinaryOp) (y u v : CType) (c d : TExpr) → of_type y ≡ true → Valued g vis u c → Valued g vis v d → test.binary op y u v ≡ true → alone g vis (record { spot = p; ty = y; node = t.Binary op c d }) ≡ true
   unfolding hidden-the_row-TExpr-0 hidden
   binary_node p op y u v c d i m n h = both (of_node y i) (three (subst (λ w. test.binary op y c.ty w ≡ true) (sym n.ty) (subst (λ w. test.binary op y w v ≡ true) (sym m.ty) h)) m.good n.good)
 
-  alike_itself : (o : Bool) → alike o o ≡ true
-  alike_itself true = refl
-  alike_itself false = refl
-
-  plain_two : (op : BinaryOp) (k : IntKind) (o : Bool) → judging.is_comparison op ≡ false → static.two_type op k o ≡ Int k o
+  pub plain_two : (op : BinaryOp) (k : IntKind) (o : Bool) → judging.is_comparison op ≡ false → static.two_type op k o ≡ Int k o
   plain_two op k true h = ap (λ l. Int l true) (plain_kind op k h).0
   plain_two op k false h = ap (λ l. Int l false) (plain_kind op k h).1
 
-  compared_two : (op : BinaryOp) (k : IntKind) (o : Bool) → judging.is_comparison op ≡ true → static.two_type op k o ≡ truth o
+  pub compared_two : (op : BinaryOp) (k : IntKind) (o : Bool) → judging.is_comparison op ≡ true → static.two_type op k o ≡ truth o
   compared_two op k true h = ap (λ l. Int l true) (compared_kind op k h).0
   compared_two op k false h = ap (λ l. Int l false) (compared_kind op k h).1
 
-  result_two : (op : BinaryOp) (k : IntKind) (o : Bool) → same true (result_of op (Int k o)) (static.two_type op k o) ≡ true
+  pub result_two : (op : BinaryOp) (k : IntKind) (o : Bool) → same true (result_of op (Int k o)) (static.two_type op k o) ≡ true
   result_two op k o = at (judging.is_comparison op) refl
     where
       at : (b : Bool) → judging.is_comparison op ≡ b → same true (if b then truth o else Int k o) (static.two_type op k o) ≡ true
       at true h = subst (λ w. same true (truth o) w ≡ true) (sym (compared_two op k o h)) (itself (truth o))
       at false h = subst (λ w. same true (Int k o) w ≡ true) (sym (plain_two op k o h)) (itself (Int k o))
 
-  result_type : (op : BinaryOp) (k : IntKind) (o : Bool) → of_type (result_of op (Int k o)) ≡ true
+  pub result_type : (op : BinaryOp) (k : IntKind) (o : Bool) → of_type (result_of op (Int k o)) ≡ true
   result_type op k o = at (judging.is_comparison op)
     where
       at : (b : Bool) → of_type (if b then truth o else Int k o) ≡ true
@@ -454,26 +191,26 @@ module _ (g : Context) (vis : List ℕ) where
       at false = refl
 
   -- of a common kind
-  common_test : (op : BinaryOp) (k : IntKind) (o : Bool) → is_promoted k ≡ true → test.binary op (result_of op (Int k o)) (Int k o) (Int k o) ≡ true
+  pub common_test : (op : BinaryOp) (k : IntKind) (o : Bool) → is_promoted k ≡ true → test.binary op (result_of op (Int k o)) (Int k o) (Int k o) ≡ true
   common_test op k o h = three (three h h (last (is_shift op) (same_kind k k) (number_itself (number_of_kind k)))) (either (alike o o) (is_shift op && o) (alike_itself o)) (result_two op k o)
 
   -- of a shift
-  shift_marks : (op : BinaryOp) (o q : Bool) → is_shift op ≡ true → test.marks op (o || q) q ≡ true
+  pub shift_marks : (op : BinaryOp) (o q : Bool) → is_shift op ≡ true → test.marks op (o || q) q ≡ true
   shift_marks op true true h = refl
   shift_marks op true false h = both h refl
   shift_marks op false true h = refl
   shift_marks op false false h = refl
 
-  shift_test : (op : BinaryOp) (k m : IntKind) (o q : Bool) → is_shift op ≡ true → test.binary op (result_of op (Int (promoted k) (o || q))) (Int (promoted k) (o || q)) (Int (promoted m) q) ≡ true
+  pub shift_test : (op : BinaryOp) (k m : IntKind) (o q : Bool) → is_shift op ≡ true → test.binary op (result_of op (Int (promoted k) (o || q))) (Int (promoted k) (o || q)) (Int (promoted m) q) ≡ true
   shift_test op k m o q h = three (three (promoted_is k) (promoted_is m) (either (is_shift op) (same_kind (promoted k) (promoted m)) h)) (shift_marks op o q h) (result_two op (promoted k) (o || q))
 
-  allowed_less : (f p : Bool) → mark_allowed true f p ≡ true → mark_allowed false f p ≡ true
+  pub allowed_less : (f p : Bool) → mark_allowed true f p ≡ true → mark_allowed false f p ≡ true
   allowed_less true true h = refl
   allowed_less true false h = never h
   allowed_less false p h = refl
 
   -- what is in normal form inside of a frozen pointer is so outside of one
-  less_normal : (s : CType) → is_normal g.public true s ≡ true → is_normal g.public false s ≡ true
+  pub less_normal : (s : CType) → is_normal g.public true s ≡ true → is_normal g.public false s ≡ true
   less_normal (Int k o) h = refl
   less_normal (Pointer' true v s) h = both (allowed_less true (holds_public_row g.public s) (first (mark_allowed true true (holds_public_row g.public s)) (is_normal_row g.public true s) h)) (second (mark_allowed true true (holds_public_row g.public s)) (is_normal_row g.public true s) h)
   less_normal (Pointer' false v (more_of-CType s end_of-CType)) h = both (allowed_less false (holds_public g.public s) (first (mark_allowed true false (holds_public g.public s)) (is_normal g.public true s) h)) (less_normal s (second (mark_allowed true false (holds_public g.public s)) (is_normal g.public true s) h))
@@ -481,16 +218,16 @@ module _ (g : Context) (vis : List ℕ) where
   less_normal (Struct n) h = refl
   less_normal Nothing h = refl
 
-  abbrev kind_with : Bool → TExpr → TExpr → IntKind
+  abbrev pub kind_with : Bool → TExpr → TExpr → IntKind
   kind_with b l r = if b then promoted (kind_of l.ty) else judging.common (kind_of l.ty) (kind_of r.ty)
 
-  abbrev right_with : Bool → TExpr → TExpr → CType
+  abbrev pub right_with : Bool → TExpr → TExpr → CType
   right_with b l r = if b then Int (promoted (kind_of r.ty)) (is_hidden r.ty) else Int (kind_with b l r) (is_hidden l.ty || is_hidden r.ty)
 
-  abbrev left_type : Bool → TExpr → TExpr → CType
+  abbrev pub left_type : Bool → TExpr → TExpr → CType
   left_type b l r = Int (kind_with b l r) (is_hidden l.ty || is_hidden r.ty)
 
-  arithmetic_with : (b : Bool) (p : Spot) (op : BinaryOp) (l r : TExpr) → is_shift op ≡ b → alone g vis l ≡ true → alone g vis r ≡ true → both_integers l.ty r.ty ≡ true
+  pub arithmetic_with : (b : Bool) (p : Spot) (op : BinaryOp) (l r : TExpr) → is_shift op ≡ b → alone g vis l ≡ true → alone g vis r ≡ true → both_integers l.ty r.ty ≡ true
       → alone g vis (record { spot = p; ty = result_of op (left_type b l r); node = t.Binary op (converted (left_type b l r) l) (converted (right_with b l r) r) }) ≡ true
   arithmetic_with true p op l r q h i b =
       binary_node p op (result_of op (left_type true l r)) (left_type true l r) (right_with true l r) (converted (left_type true l r) l) (converted (right_with true l r) r) (result_type op (promoted (kind_of l.ty)) (is_hidden l.ty || is_hidden r.ty))
@@ -510,20 +247,20 @@ module _ (g : Context) (vis : List ℕ) where
   node_of e h = first (is_of_node g e.ty) (expr g vis false e.ty e.node) h
 
   -- pointers that are compared
-  same_test : (u y : CType) → is_of_node g u ≡ true → is_of_node g y ≡ true → judging.alike_pointers u y ≡ true → test.alike_pointers u y ≡ true
+  pub same_test : (u y : CType) → is_of_node g u ≡ true → is_of_node g y ≡ true → judging.alike_pointers u y ≡ true → test.alike_pointers u y ≡ true
   same_test u y h i a =
       three (first (is_pointer u) (is_pointer y) (first (is_pointer u && is_pointer y) _ a)) (second (is_pointer u) (is_pointer y) (first (is_pointer u && is_pointer y) _ a))
       (turned (judging.is_null u) (judging.is_null y) (same false u y) (test.is_null u) (test.is_null y) (null_same g u h) (null_same g y i) (second (is_pointer u && is_pointer y) (judging.is_null u || judging.is_null y || same false u y) a))
 
-  same_node : (p : Spot) (l r : TExpr) (negated : Bool) → alone g vis l ≡ true → alone g vis r ≡ true → test.alike_pointers l.ty r.ty ≡ true → alone g vis (record { spot = p; ty = Int I32 false; node = t.PointerSame l r negated }) ≡ true
+  pub same_node : (p : Spot) (l r : TExpr) (negated : Bool) → alone g vis l ≡ true → alone g vis r ≡ true → test.alike_pointers l.ty r.ty ≡ true → alone g vis (record { spot = p; ty = Int I32 false; node = t.PointerSame l r negated }) ≡ true
   unfolding hidden-the_row-TExpr-0 hidden
   same_node p l r negated h i a = both refl (both (both (both refl a) h) i)
 
-  step_node : (p : Spot) (l r : TExpr) (back amount_first : Bool) → alone g vis l ≡ true → alone g vis r ≡ true → judging.steps l.ty r.ty ≡ true → not (back && amount_first) ≡ true → alone g vis (record { spot = p; ty = l.ty; node = t.PointerStep l r back amount_first }) ≡ true
+  pub step_node : (p : Spot) (l r : TExpr) (back amount_first : Bool) → alone g vis l ≡ true → alone g vis r ≡ true → judging.steps l.ty r.ty ≡ true → not (back && amount_first) ≡ true → alone g vis (record { spot = p; ty = l.ty; node = t.PointerStep l r back amount_first }) ≡ true
   unfolding hidden-the_row-TExpr-0 hidden
   step_node p l r back amount_first h i a f = both (node_of l h) (both (both (both (step_test l.ty r.ty a) f) h) i)
 
-  choice_node : (p : Spot) (y : CType) (b c d : TExpr) → of_type y ≡ true → test.is_common y ≡ true → test.is_public b.ty ≡ true → alone g vis b ≡ true → Valued g vis y c → Valued g vis y d → alone g vis (record { spot = p; ty = y; node = t.Choose b c d }) ≡ true
+  pub choice_node : (p : Spot) (y : CType) (b c d : TExpr) → of_type y ≡ true → test.is_common y ≡ true → test.is_public b.ty ≡ true → alone g vis b ≡ true → Valued g vis y c → Valued g vis y d → alone g vis (record { spot = p; ty = y; node = t.Choose b c d }) ≡ true
   unfolding hidden-the_row-TExpr-0 hidden
   choice_node p y b c d i k m h v w = both (of_node y i) (both (both (both (both (both (both m k) (subst (λ z. same true z y ≡ true) (sym v.ty) (itself y))) (subst (λ z. same true z y ≡ true) (sym w.ty) (itself y))) h) v.good) w.good)
 
@@ -537,11 +274,11 @@ module _ (g : Context) (vis : List ℕ) where
 
   -- Numbers, places and what is read of them.
 
-  read_node : (p : Spot) (y : CType) (q : TPlace) → of_type y ≡ true → q.ty ≡ y → test.is_held y ≡ true → typed.place g vis q.ty q.node ≡ true → alone g vis (record { spot = p; ty = y; node = t.Read q }) ≡ true
+  pub read_node : (p : Spot) (y : CType) (q : TPlace) → of_type y ≡ true → q.ty ≡ y → test.is_held y ≡ true → typed.place g vis q.ty q.node ≡ true → alone g vis (record { spot = p; ty = y; node = t.Read q }) ≡ true
   unfolding hidden-the_row-TPlace-2 hidden
   read_node p y q i e k h = both (of_node y i) (both (both (both (subst (λ w. same true y w ≡ true) (sym e) (itself y)) (subst (λ w. test.is_held w ≡ true) (sym e) k)) (subst (λ w. of_type w ≡ true) (sym e) i)) h)
 
-  index_node : (p : Spot) (e a : TExpr) → alone g vis e ≡ true → alone g vis a ≡ true → judging.leads e.ty ≡ true → test.is_public a.ty ≡ true → typed.place g vis (target e.ty) (place.Index e a) ≡ true
+  pub index_node : (p : Spot) (e a : TExpr) → alone g vis e ≡ true → alone g vis a ≡ true → judging.leads e.ty ≡ true → test.is_public a.ty ≡ true → typed.place g vis (target e.ty) (place.Index e a) ≡ true
   unfolding hidden-the_row-TExpr-0 hidden
   index_node p e a h i k m = both (both (both (both (first (is_pointer e.ty) (not (is_nothing (target e.ty))) k) (itself (target e.ty))) m) h) i
 
@@ -549,20 +286,20 @@ module _ (g : Context) (vis : List ℕ) where
   unfolding hidden-the_row-TExpr-0 hidden
   deref_node e h k = both (both (first (is_pointer e.ty) (not (is_nothing (target e.ty))) k) (itself (target e.ty))) h
 
-  inner_normal : (f inside : Bool) (s : CType) → is_normal g.public (inside || f) s ≡ true → is_normal g.public inside s ≡ true
+  pub inner_normal : (f inside : Bool) (s : CType) → is_normal g.public (inside || f) s ≡ true → is_normal g.public inside s ≡ true
   inner_normal false true s h = h
   inner_normal false false s h = h
   inner_normal true true s h = h
   inner_normal true false s h = less_normal s h
 
-  target_ok : (f : Bool) (v : _) (s : CType) → of_type (Pointer' f v (more_of-CType s end_of-CType)) ≡ true → of_type s ≡ true
+  pub target_ok : (f : Bool) (v : _) (s : CType) → of_type (Pointer' f v (more_of-CType s end_of-CType)) ≡ true → of_type s ≡ true
   target_ok f v s h = both (inner_normal f false s (second (mark_allowed false f (holds_public g.public s)) (is_normal g.public f s) (first (mark_allowed false f (holds_public g.public s) && is_normal g.public f s) (is_whole g.sizes s) h))) (second (mark_allowed false f (holds_public g.public s) && is_normal g.public f s) (is_whole g.sizes s) h)
 
   -- an address of an element
-  element_ok : (n : ℕ) (v : _) (s : CType) → of_type (Array' n v (more_of-CType s end_of-CType)) ≡ true → of_type (Pointer' false v (more_of-CType s end_of-CType)) ≡ true
+  pub element_ok : (n : ℕ) (v : _) (s : CType) → of_type (Array' n v (more_of-CType s end_of-CType)) ≡ true → of_type (Pointer' false v (more_of-CType s end_of-CType)) ≡ true
   element_ok n v s h = both (first (is_normal g.public false s) (is_sized g.sizes (Array' n v (more_of-CType s end_of-CType)) && is_whole g.sizes s) h) (second (is_sized g.sizes (Array' n v (more_of-CType s end_of-CType))) (is_whole g.sizes s) (second (is_normal g.public false s) (is_sized g.sizes (Array' n v (more_of-CType s end_of-CType)) && is_whole g.sizes s) h))
 
-  cast_converts : (y u : CType) → is_integer u ≡ true → judging.converts y u ≡ true → test.converts y u ≡ true
+  pub cast_converts : (y u : CType) → is_integer u ≡ true → judging.converts y u ≡ true → test.converts y u ≡ true
   cast_converts (Int k true) (Int l true) i c = refl
   cast_converts (Int k true) (Int l false) i c = never c
   cast_converts (Int k false) (Int l q) i c = refl
@@ -575,7 +312,7 @@ module _ (g : Context) (vis : List ℕ) where
   cast_converts y (Struct n) i c = never i
   cast_converts y Nothing i c = never i
 
-  cast_node : (p : Spot) (u : CType) (e : TExpr) → of_type u ≡ true → alone g vis e ≡ true → is_integer u ≡ true → judging.converts e.ty u ≡ true → alone g vis (record { spot = p; ty = u; node = t.Convert e }) ≡ true
+  pub cast_node : (p : Spot) (u : CType) (e : TExpr) → of_type u ≡ true → alone g vis e ≡ true → is_integer u ≡ true → judging.converts e.ty u ≡ true → alone g vis (record { spot = p; ty = u; node = t.Convert e }) ≡ true
   unfolding hidden-the_row-TExpr-0 hidden
   cast_node p u e i h b c = both (of_node u i) (both (cast_converts e.ty u b c) h)
 
@@ -599,22 +336,18 @@ module _ (g : Context) (vis : List ℕ) where
 
   -- Operators.
 
-  not_back : (b : Bool) → not (b && false) ≡ true
-  not_back true = refl
-  not_back false = refl
-
-  left_step : (op : BinaryOp) (u y : CType) → is_pointer u ≡ true → judging.is_equality op ≡ false → (((judging.is_add op || judging.is_minus op) && judging.steps u y) || (judging.is_add op && judging.steps y u) || (judging.is_equality op && judging.alike_pointers u y)) ≡ true → judging.steps u y ≡ true
+  pub left_step : (op : BinaryOp) (u y : CType) → is_pointer u ≡ true → judging.is_equality op ≡ false → (((judging.is_add op || judging.is_minus op) && judging.steps u y) || (judging.is_add op && judging.steps y u) || (judging.is_equality op && judging.alike_pointers u y)) ≡ true → judging.steps u y ≡ true
   left_step op u y h e k =
       one_of ((judging.is_add op || judging.is_minus op) && judging.steps u y) (judging.is_add op && judging.steps y u) (judging.is_equality op && judging.alike_pointers u y) (λ a. second (judging.is_add op || judging.is_minus op) (judging.steps u y) a)
       (λ b. never (no_address u h (second (judging.leads y) (judging.is_public u) (second (judging.is_add op) (judging.steps y u) b)))) (λ c. never (sym e ∙ first (judging.is_equality op) (judging.alike_pointers u y) c)) k
 
-  right_step : (op : BinaryOp) (u y : CType) → is_pointer u ≡ false → judging.is_equality op ≡ false → (((judging.is_add op || judging.is_minus op) && judging.steps u y) || (judging.is_add op && judging.steps y u) || (judging.is_equality op && judging.alike_pointers u y)) ≡ true → judging.steps y u ≡ true
+  pub right_step : (op : BinaryOp) (u y : CType) → is_pointer u ≡ false → judging.is_equality op ≡ false → (((judging.is_add op || judging.is_minus op) && judging.steps u y) || (judging.is_add op && judging.steps y u) || (judging.is_equality op && judging.alike_pointers u y)) ≡ true → judging.steps y u ≡ true
   right_step op u y h e k =
       one_of ((judging.is_add op || judging.is_minus op) && judging.steps u y) (judging.is_add op && judging.steps y u) (judging.is_equality op && judging.alike_pointers u y)
       (λ a. never (sym h ∙ first (is_pointer u) (not (is_nothing (target u))) (first (judging.leads u) (judging.is_public y) (second (judging.is_add op || judging.is_minus op) (judging.steps u y) a))))
       (λ b. second (judging.is_add op) (judging.steps y u) b) (λ c. never (sym e ∙ first (judging.is_equality op) (judging.alike_pointers u y) c)) k
 
-  compared : (op : BinaryOp) (u y : CType) → judging.is_equality op ≡ true → (((judging.is_add op || judging.is_minus op) && judging.steps u y) || (judging.is_add op && judging.steps y u) || (judging.is_equality op && judging.alike_pointers u y)) ≡ true → judging.alike_pointers u y ≡ true
+  pub compared : (op : BinaryOp) (u y : CType) → judging.is_equality op ≡ true → (((judging.is_add op || judging.is_minus op) && judging.steps u y) || (judging.is_add op && judging.steps y u) || (judging.is_equality op && judging.alike_pointers u y)) ≡ true → judging.alike_pointers u y ≡ true
   compared op u y e k =
       one_of ((judging.is_add op || judging.is_minus op) && judging.steps u y) (judging.is_add op && judging.steps y u) (judging.is_equality op && judging.alike_pointers u y)
       (λ a. never (sym (no_sum op e) ∙ first (judging.is_add op || judging.is_minus op) (judging.steps u y) a)) (λ b. never (sym (no_add op e) ∙ first (judging.is_add op) (judging.steps y u) b)) (λ c. second (judging.is_equality op) (judging.alike_pointers u y) c) k
@@ -639,7 +372,7 @@ module _ (g : Context) (vis : List ℕ) where
 
   -- Assignments.
 
-  assign_node : (p : Spot) (q : TPlace) (x : TExpr) → of_type q.ty ≡ true → typed.place g vis q.ty q.node ≡ true → test.is_held q.ty ≡ true → Valued g vis q.ty x → alone g vis (record { spot = p; ty = q.ty; node = t.Assign q x }) ≡ true
+  pub assign_node : (p : Spot) (q : TPlace) (x : TExpr) → of_type q.ty ≡ true → typed.place g vis q.ty q.node ≡ true → test.is_held q.ty ≡ true → Valued g vis q.ty x → alone g vis (record { spot = p; ty = q.ty; node = t.Assign q x }) ≡ true
   unfolding hidden-the_row-TExpr-0 hidden-the_row-TExpr-1 hidden-the_row-TPlace-2 hidden
   assign_node p q x i k h v = both (of_node q.ty i) (both (both (both (both (both (itself q.ty) (subst (λ w. same true w q.ty ≡ true) (sym v.ty) (itself q.ty))) h) i) k) v.good)
 
@@ -648,11 +381,11 @@ module _ (g : Context) (vis : List ℕ) where
   assigned_good p (Value e) v h i = tt
   assigned_good p (Place q) v h i = if_convert g vis q.ty v _ (λ c. assign_node p q (converted q.ty v) h.0 h.1 (held_of v.ty q.ty c) (converted_good q.ty v i h.0 c))
 
-  update_node : (p : Spot) (op : BinaryOp) (q : TPlace) (x : TExpr) (old : Bool) → of_type q.ty ≡ true → typed.place g vis q.ty q.node ≡ true → test.update op q.ty x.ty ≡ true → alone g vis x ≡ true → (not old || is_unit_value x) ≡ true → alone g vis (record { spot = p; ty = q.ty; node = t.Update op q x old }) ≡ true
+  pub update_node : (p : Spot) (op : BinaryOp) (q : TPlace) (x : TExpr) (old : Bool) → of_type q.ty ≡ true → typed.place g vis q.ty q.node ≡ true → test.update op q.ty x.ty ≡ true → alone g vis x ≡ true → (not old || is_unit_value x) ≡ true → alone g vis (record { spot = p; ty = q.ty; node = t.Update op q x old }) ≡ true
   unfolding hidden-the_row-TExpr-0 hidden-the_row-TExpr-1 hidden-the_row-TPlace-2 hidden
   update_node p op q x old i k h v u = both (of_node q.ty i) (both (both (both (both (both (itself q.ty) h) i) k) v) u)
 
-  shift_update : (op : BinaryOp) (u : CType) (m : IntKind) (q : Bool) → not (judging.is_comparison op) ≡ true → is_integer u ≡ true → is_shift op ≡ true → (not q || is_hidden u) ≡ true → test.update op u (Int (promoted m) q) ≡ true
+  pub shift_update : (op : BinaryOp) (u : CType) (m : IntKind) (q : Bool) → not (judging.is_comparison op) ≡ true → is_integer u ≡ true → is_shift op ≡ true → (not q || is_hidden u) ≡ true → test.update op u (Int (promoted m) q) ≡ true
   shift_update op (Int k o) m q n i h f = both (both (both n (promoted_is m)) (marks_at o q f)) (either (is_shift op) _ h)
     where
       marks_at : (o q : Bool) → (not q || o) ≡ true → test.marks op o q ≡ true
@@ -665,14 +398,14 @@ module _ (g : Context) (vis : List ℕ) where
   shift_update op (Struct k) m q n i h e = never i
   shift_update op Nothing m q n i h e = never i
 
-  plain_update : (op : BinaryOp) (u : CType) (m : IntKind) → not (judging.is_comparison op) ≡ true → is_integer u ≡ true → test.update op u (Int (judging.common (kind_of u) m) (is_hidden u)) ≡ true
+  pub plain_update : (op : BinaryOp) (u : CType) (m : IntKind) → not (judging.is_comparison op) ≡ true → is_integer u ≡ true → test.update op u (Int (judging.common (kind_of u) m) (is_hidden u)) ≡ true
   plain_update op (Int k o) m n i = both (both (both n (common_promoted k m)) (either (alike o o) (is_shift op && o) (alike_itself o))) (last (is_shift op) _ (common_over k m))
   plain_update op (Pointer' f v s) m n i = never i
   plain_update op (Array' k v s) m n i = never i
   plain_update op (Struct k) m n i = never i
   plain_update op Nothing m n i = never i
 
-  step_update : (op : BinaryOp) (u y : CType) → judging.leads u ≡ true → judging.is_public y ≡ true → (judging.is_add op || judging.is_minus op) ≡ true → test.update op u y ≡ true
+  pub step_update : (op : BinaryOp) (u y : CType) → judging.leads u ≡ true → judging.is_public y ≡ true → (judging.is_add op || judging.is_minus op) ≡ true → test.update op u y ≡ true
   step_update op (Pointer' f v s) (Int m q) h i k = both i (sum_same op k)
   step_update op (Pointer' f v s) (Pointer' e w x) h i k = never i
   step_update op (Pointer' f v s) (Array' n w x) h i k = never i
@@ -684,11 +417,11 @@ module _ (g : Context) (vis : List ℕ) where
   step_update op Nothing y h i k = never h
 
   -- the value of an update, as its operator takes it
-  record Works (op : BinaryOp) (u : CType) (x : TExpr) : Type 0 where
+  pub record Works (op : BinaryOp) (u : CType) (x : TExpr) : Type 0 where
     good : alone g vis x ≡ true
     fits : test.update op u x.ty ≡ true
 
-  works_at : (b c : Bool) (op : BinaryOp) (u : CType) (v : TExpr) → is_integer u ≡ b → is_shift op ≡ c → not (judging.is_comparison op) ≡ true → alone g vis v ≡ true → judging.takes_update op u v.ty ≡ true
+  pub works_at : (b c : Bool) (op : BinaryOp) (u : CType) (v : TExpr) → is_integer u ≡ b → is_shift op ≡ c → not (judging.is_comparison op) ≡ true → alone g vis v ≡ true → judging.takes_update op u v.ty ≡ true
       → Works op u (if not b then v else if c then converted (Int (promoted (kind_of v.ty)) (is_hidden v.ty)) v else converted (Int (judging.common (kind_of u) (kind_of v.ty)) (is_hidden u)) v)
   works_at true true op u v p s n h k =
       let w = int_good (promoted (kind_of v.ty)) (is_hidden v.ty) v h (value_integer op u v.ty p k) (marked (is_hidden v.ty)) in
@@ -707,11 +440,11 @@ module _ (g : Context) (vis : List ℕ) where
       let w = works_at (is_integer q.ty) (is_shift op) op q.ty v refl refl n i k in
       update_node p op q (working op q.ty v) false h.0 h.1 w.fits w.good refl)
 
-  no_comparison : (up : Bool) → not (judging.is_comparison (sum_op up)) ≡ true
+  pub no_comparison : (up : Bool) → not (judging.is_comparison (sum_op up)) ≡ true
   no_comparison true = refl
   no_comparison false = refl
 
-  bump_takes : (up : Bool) (u : CType) → (is_integer u || judging.leads u) ≡ true → judging.takes_update (sum_op up) u (Int I32 false) ≡ true
+  pub bump_takes : (up : Bool) (u : CType) → (is_integer u || judging.leads u) ≡ true → judging.takes_update (sum_op up) u (Int I32 false) ≡ true
   bump_takes true (Int k o) h = refl
   bump_takes false (Int k o) h = refl
   bump_takes true (Pointer' f v s) h = both h refl
@@ -721,19 +454,19 @@ module _ (g : Context) (vis : List ℕ) where
   bump_takes up Nothing h = never h
 
   -- the number 1 that is added or subtracted
-  abbrev unit_at : Spot → TExpr
+  abbrev pub unit_at : Spot → TExpr
   unit_at p = record { spot = p; ty = Int I32 false; node = t.Number (pos 1) }
 
-  unit_converted : (b : Bool) (p : Spot) (u : CType) → is_unit_value (if b then unit_at p else record { spot = p; ty = u; node = t.Convert (unit_at p) }) ≡ true
+  pub unit_converted : (b : Bool) (p : Spot) (u : CType) → is_unit_value (if b then unit_at p else record { spot = p; ty = u; node = t.Convert (unit_at p) }) ≡ true
   unfolding hidden-the_row-TExpr-0 hidden
   unit_converted true p u = refl
   unit_converted false p u = refl
 
-  unit_works : (b c : Bool) (p : Spot) (u : CType) → is_unit_value (if not b then unit_at p else if c then unit_at p else record { spot = p; ty = u; node = t.Convert (unit_at p) }) ≡ true
+  pub unit_works : (b c : Bool) (p : Spot) (u : CType) → is_unit_value (if not b then unit_at p else if c then unit_at p else record { spot = p; ty = u; node = t.Convert (unit_at p) }) ≡ true
   unit_works true c p u = unit_converted c p u
   unit_works false c p u = refl
 
-  bump_unit : (p : Spot) (up : Bool) (u : CType) → is_unit_value (working (sum_op up) u (unit_at p)) ≡ true
+  pub bump_unit : (p : Spot) (up : Bool) (u : CType) → is_unit_value (working (sum_op up) u (unit_at p)) ≡ true
   bump_unit p true u = unit_works (is_integer u) (same true (Int I32 false) (Int (judging.common (kind_of u) I32) (is_hidden u))) p (Int (judging.common (kind_of u) I32) (is_hidden u))
   bump_unit p false u = unit_works (is_integer u) (same true (Int I32 false) (Int (judging.common (kind_of u) I32) (is_hidden u))) p (Int (judging.common (kind_of u) I32) (is_hidden u))
 
@@ -753,14 +486,14 @@ module _ (g : Context) (vis : List ℕ) where
   variable_good p None f = tt
   variable_good p (Some s) f = let h = f s refl in (h.ty, both h.visible h.slot)
 
-  held_here : (u : CType) → judging.is_array u ≡ false → of_type u ≡ true → test.is_held u ≡ true
+  pub held_here : (u : CType) → judging.is_array u ≡ false → of_type u ≡ true → test.is_held u ≡ true
   held_here (Int k o) a h = refl
   held_here (Pointer' f v s) a h = refl
   held_here (Struct n) a h = refl
   held_here (Array' n v s) a h = never (sym a)
   held_here Nothing a h = h
 
-  decay_node : (p : Spot) (q : TPlace) (u : CType) → q.ty ≡ u → judging.is_array u ≡ true → of_type q.ty ≡ true → typed.place g vis q.ty q.node ≡ true → alone g vis (record { spot = p; ty = Pointer false (judging.element u); node = t.Decay q }) ≡ true
+  pub decay_node : (p : Spot) (q : TPlace) (u : CType) → q.ty ≡ u → judging.is_array u ≡ true → of_type q.ty ≡ true → typed.place g vis q.ty q.node ≡ true → alone g vis (record { spot = p; ty = Pointer false (judging.element u); node = t.Decay q }) ≡ true
   unfolding hidden-the_row-TPlace-2 hidden-the_row-CType-0 hidden
   decay_node p q (Array' n v (more_of-CType s end_of-CType)) e a i h =
       both (of_node (Pointer' false v (more_of-CType s end_of-CType)) (element_ok n v s (subst (λ w. of_type w ≡ true) e i))) (both (both (subst (λ w. test.decay (Pointer' false v (more_of-CType s end_of-CType)) w ≡ true) (sym e) (itself s)) i) h)
@@ -777,7 +510,7 @@ module _ (g : Context) (vis : List ℕ) where
       at true a = decay_node q.spot q q.ty refl a h.0 h.1
       at false a = read_node q.spot q.ty q h.0 refl (held_here q.ty a h.0) h.1
 
-  address_node : (p : Spot) (q : TPlace) → of_type q.ty ≡ true → typed.place g vis q.ty q.node ≡ true → alone g vis (record { spot = p; ty = Pointer false q.ty; node = t.AddressOf q }) ≡ true
+  pub address_node : (p : Spot) (q : TPlace) → of_type q.ty ≡ true → typed.place g vis q.ty q.node ≡ true → alone g vis (record { spot = p; ty = Pointer false q.ty; node = t.AddressOf q }) ≡ true
   unfolding hidden-the_row-TPlace-2 hidden-the_row-CType-0 hidden
   address_node p q i h = both (last (is_nothing q.ty) (of_type (Pointer false q.ty)) i) (both (both (itself q.ty) i) h)
 
@@ -786,7 +519,7 @@ module _ (g : Context) (vis : List ℕ) where
   refer_good p (Value e) h = tt
   refer_good p (Place q) h = address_node p q h.0 h.1
 
-  field_node : (q : TPlace) (n : ℕ) (u : CType) → of_type q.ty ≡ true → typed.place g vis q.ty q.node ≡ true → test.field g.structs q.ty n u ≡ true → typed.place g vis u (place.Field q n) ≡ true
+  pub field_node : (q : TPlace) (n : ℕ) (u : CType) → of_type q.ty ≡ true → typed.place g vis q.ty q.node ≡ true → test.field g.structs q.ty n u ≡ true → typed.place g vis u (place.Field q n) ≡ true
   unfolding hidden-the_row-TPlace-2 hidden
   field_node q n u i h f = both (both f i) h
 

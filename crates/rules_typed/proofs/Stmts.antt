@@ -42,9 +42,12 @@ use Rattle.oc_typing.specs.Typed as typed
 use Rattle.rules_typed.specs.Grammatical.{Grammatical, GrammaticalOption, GrammaticalDeclared, GrammaticalHeader, is_declaration, GrammaticalStmt, GrammaticalPart, GrammaticalRows, GrammaticalOther}
 use Rattle.rules_typed.specs.Agreeing.{Valued, GoodVariable, Agrees, Goes, AgreesApart, SeesAll}
 use Rattle.rules_typed.specs.Laws.{StatementsAreTyped}
-use Rattle.rules_typed.proofs.Nodes.{never, both, three, last, either, int_good, public_test, converted_good, held_of}
-use Rattle.rules_typed.proofs.Exprs.{expressions_typed, valued_good}
 use Rattle.rules_typed.proofs.Used.{value_used}
+use Rattle.rules_typed.proofs.Bools.{both, either, hidden_last, last, never, none_some, number_itself, some_is, some_none, three}
+use Rattle.rules_typed.proofs.Types.{held_of, itself, public_test}
+use Rattle.rules_typed.proofs.Nodes.{converted_good, int_good}
+use Rattle.rules_typed.proofs.OwnCalls.{shown}
+use Rattle.rules_typed.proofs.Exprs.{expressions_typed, valued_good}
 
 one_on : (a b : List SlotType) (t : SlotType) → (a ++ t ∷ []) ++ b ≡ a ++ t ∷ b
 one_on [] b t = refl
@@ -138,15 +141,6 @@ module _ (r : Lookup) (g : Context) (around : AgreesApart r g) where
 
   -- Names.
 
-  some_is : {A : Type 0} {a b : A} → Some a ≡ Some b → a ≡ b
-  some_is q = (cc)
-
-  none_some : {A : Type 0} {a : A} → None ≡ Some a → ⊥
-  none_some q = (cc)
-
-  some_none : {A : Type 0} {a : A} → Some a ≡ None → ⊥
-  some_none q = (cc)
-
   none_add : (ss : List Seen) (n : Seen) (x : List ℕ) → lookup.find (ss ++ n ∷ []) x ≡ None → lookup.find ss x ≡ None
   none_add [] n x q = refl
   none_add (y ∷ ss) n x q = on (lookup.find (ss ++ n ∷ []) x) (lookup.find ss x) (lookup.seen_here y x) (λ p. none_add ss n x p) q
@@ -169,14 +163,8 @@ module _ (r : Lookup) (g : Context) (around : AgreesApart r g) where
       on (Some a) p q i j = i (p ∙ q)
       on None p q i j = h (subst (λ o. lookup.or_else o (lookup.seen_here w x) ≡ Some y) (sym (j p)) q)
 
-  number_itself : (n : ℕ) → nat_eq n n ≡ true
-  number_itself n = grind arith
-
-  type_itself : (u : CType) → same true u u ≡ true
-  type_itself u = (same_is_equal u u).itself refl
-
   has_itself : (u : CType) (frozen : Bool) (o : Option SlotType) → o ≡ Some (record { ty = u; frozen = frozen }) → has_type u o ≡ true
-  has_itself u frozen o q = subst (λ o. has_type u o ≡ true) (sym q) (type_itself u)
+  has_itself u frozen o q = subst (λ o. has_type u o ≡ true) (sym q) (itself u)
 
   sees_more : (z : Scope) (f : List SlotType) (vis : List ℕ) (x : List ℕ) (u : CType) (frozen : Bool) → is_type g.sizes g.public u ≡ true → Goes (add x u frozen z).slots f → Sees vis z.seen f → Sees (length z.slots ∷ vis) (add x u frozen z).seen f
   sees_more z f vis x u frozen k e h = λ y w q.
@@ -199,7 +187,7 @@ module _ (r : Lookup) (g : Context) (around : AgreesApart r g) where
   turned_value z u v k h c = λ f vis i. converted_good (among f) vis u v (h f vis i) k c
 
   initial_test : (f : List SlotType) (vis : List ℕ) (u : CType) (frozen : Bool) (o : Option SlotType) (x : TExpr) → o ≡ Some (record { ty = u; frozen = frozen }) → test.is_held u ≡ true → Valued (among f) vis u x → typed.initial (among f) vis o (Some x) ≡ true
-  initial_test f vis u frozen o x q h v = subst (λ o. typed.initial (among f) vis o (Some x) ≡ true) (sym q) (three (subst (λ w. same true w u ≡ true) (sym v.ty) (type_itself u)) h v.good)
+  initial_test f vis u frozen o x q h v = subst (λ o. typed.initial (among f) vis o (Some x) ≡ true) (sym q) (three (subst (λ w. same true w u ≡ true) (sym v.ty) (itself u)) h v.good)
 
   initial_none : (f : List SlotType) (vis : List ℕ) (u : CType) (frozen : Bool) (o : Option SlotType) → o ≡ Some (record { ty = u; frozen = frozen }) → typed.initial (among f) vis o None ≡ true
   initial_none f vis u frozen o q = subst (λ o. typed.initial (among f) vis o None ≡ true) (sym q) refl
@@ -409,10 +397,6 @@ module _ (r : Lookup) (g : Context) (around : AgreesApart r g) where
   maybe_value f vis z None h j = refl
   maybe_value f vis z (Some v) h j = both (h.1 f vis j) (h.0 f vis j)
 
-  hidden_last : (o : Bool) → (not o || true) ≡ true
-  hidden_last true = refl
-  hidden_last false = refl
-
   -- a statement with a scope of its own, before its names end
   pub record Inner (loop : Bool) (z : Scope) (x : made_stmt.TStmt) (t : Scope) : Type 0 where
     pub grows : (f : List SlotType) → Goes t.slots f → Goes z.slots f
@@ -441,7 +425,7 @@ module _ (r : Lookup) (g : Context) (around : AgreesApart r g) where
       on true f = give (judging.converts v.ty r.result) (judging.converts (judging.bare v.ty) (judging.bare r.result)) (λ c. turned_value z r.result v (subst (λ u. is_type g.sizes g.public u ≡ true) (sym around.same_result) (around.back (f refl))) h.0 c)
         where
           give : (c d : Bool) → (c ≡ true → Turned z r.result (lookup.converted r.result v)) → IfOk (next {A = Option TExpr × Scope} (next {A = Option TExpr} (next {A = TExpr} (next {A = Unit {0}} (if c then Ok (tt {0}) else if d then breaks v.spot T4 else breaks v.spot T3) (λ _. Ok (lookup.converted r.result v))) (λ x. Ok (Some x))) (λ a. Ok (a, z))) (λ x. walk.made p (s.Return x.0) x.1)) (λ q. Done false loop z q.0 q.1)
-          give true d t = record { grows = λ l e. e; test = λ l vis e i. let w = t refl l vis i in three (f refl) (subst (λ u. same true u g.result ≡ true) (sym (w.ty ∙ around.same_result)) (type_itself g.result)) w.good; sees = λ l vis e i. i; still = λ q vis. refl }
+          give true d t = record { grows = λ l e. e; test = λ l vis e i. let w = t refl l vis i in three (f refl) (subst (λ u. same true u g.result ≡ true) (sym (w.ty ∙ around.same_result)) (itself g.result)) w.good; sees = λ l vis e i. i; still = λ q vis. refl }
           give false true t = tt
           give false false t = tt
 

@@ -42,7 +42,7 @@ use Rattle.oc_typing.specs.Rules.{is_type, is_nothing}
 use Rattle.oc_typing.specs.Rules as test
 use Rattle.oc_typing.specs.Typed.{Context, is_of_node, alone}
 use Rattle.oc_typing.specs.Typed as typed
-use Rattle.rules_typed.proofs.Nodes.{never, first, second}
+use Rattle.rules_typed.proofs.Bools.{first, never, second}
 
 -- nodes whose type is that of a part
 abbrev pub is_open : t.TExprNode → Bool
