@@ -43,26 +43,17 @@ use Rattle.rules_typed.specs.Grammatical.{Grammatical, GrammaticalOption, Gramma
 use Rattle.rules_typed.specs.Agreeing.{Valued, GoodVariable, Agrees, Goes, AgreesApart, SeesAll}
 use Rattle.rules_typed.specs.Laws.{StatementsAreTyped}
 use Rattle.rules_typed.proofs.Used.{value_used}
-use Rattle.rules_typed.proofs.Bools.{both, either, hidden_last, last, never, none_some, number_itself, some_is, some_none, three}
+use Rattle.rules_typed.proofs.Bools.{both, either, first, hidden_last, last, never, none_some, number_itself, some_is, some_none, three}
 use Rattle.rules_typed.proofs.Types.{held_of, itself, public_test}
 use Rattle.rules_typed.proofs.Nodes.{converted_good, int_good}
 use Rattle.rules_typed.proofs.OwnCalls.{shown}
+use Rattle.rules_typed.proofs.Slots.{there, Adds, adds_none, adds_both, adds_one}
 use Rattle.rules_typed.proofs.Exprs.{expressions_typed, valued_good}
 
-one_on : (a b : List SlotType) (t : SlotType) → (a ++ t ∷ []) ++ b ≡ a ++ t ∷ b
-one_on [] b t = refl
-one_on (x ∷ a) b t = ap (λ l. x ∷ l) (one_on a b t)
-
-goes_back : (a f : List SlotType) (t : SlotType) → Goes (a ++ t ∷ []) f → Goes a f
-goes_back a f t g = (t ∷ g.0, g.1 ∙ one_on a g.0 t)
-
-there_at : (a b : List SlotType) (t : SlotType) → slice_get (a ++ t ∷ b) (length a) ≡ Some t
-there_at [] b t = refl
-there_at (x ∷ a) b t = there_at a b t
-
-there : (a f : List SlotType) (t : SlotType) → Goes (a ++ t ∷ []) f → slice_get f (length a) ≡ Some t
-unfolding goes_back
-there a f t g = subst (λ l. slice_get l (length a) ≡ Some t) (sym (goes_back a f t g).1) (there_at a g.0 t)
+-- the slots of the part after an `else`
+abbrev pub slots_after : Option made_stmt.TStmt → List ℕ
+slots_after None = []
+slots_after (Some x) = typed.slots_in x.node
 
 module _ (r : Lookup) (g : Context) (around : AgreesApart r g) where
   abbrev among : List SlotType → Context
@@ -174,8 +165,15 @@ module _ (r : Lookup) (g : Context) (around : AgreesApart r g) where
 
   -- Declarations.
 
+  -- a variable of this type may be a slot, frozen or not
+  abbrev IsSlot : CType → Bool → Type 0
+  IsSlot u frozen = typed.is_slot g.sizes g.public (record { ty = u; frozen = frozen }) ≡ true
+
+  slot_type : (u : CType) (frozen : Bool) → IsSlot u frozen → is_type g.sizes g.public u ≡ true
+  slot_type u frozen h = first (is_type g.sizes g.public u) (not (frozen && typed.is_starred u)) h
+
   pub record DoneDeclared (z : Scope) (x : made_declared.TDeclared) (t : Scope) : Type 0 where
-    pub grows : (f : List SlotType) → Goes t.slots f → Goes z.slots f
+    pub adds : Adds g z.slots t.slots (x.slot ∷ [])
     pub test : (f : List SlotType) (vis : List ℕ) → Goes t.slots f → Sees vis z.seen f → typed.initial (among f) (x.slot ∷ vis) (slice_get f x.slot) x.init ≡ true
     pub sees : (f : List SlotType) (vis : List ℕ) → Goes t.slots f → Sees vis z.seen f → Sees (x.slot ∷ vis) t.seen f
 
@@ -192,80 +190,80 @@ module _ (r : Lookup) (g : Context) (around : AgreesApart r g) where
   initial_none : (f : List SlotType) (vis : List ℕ) (u : CType) (frozen : Bool) (o : Option SlotType) → o ≡ Some (record { ty = u; frozen = frozen }) → typed.initial (among f) vis o None ≡ true
   initial_none f vis u frozen o q = subst (λ o. typed.initial (among f) vis o None ≡ true) (sym q) refl
 
-  declared_none : (z : Scope) (p : Spot) (x : List ℕ) (u : CType) (frozen : Bool) → is_type g.sizes g.public u ≡ true → DoneDeclared z (record { spot = p; slot = length z.slots; init = None }) (add x u frozen z)
+  declared_none : (z : Scope) (p : Spot) (x : List ℕ) (u : CType) (frozen : Bool) → IsSlot u frozen → DoneDeclared z (record { spot = p; slot = length z.slots; init = None }) (add x u frozen z)
   declared_none z p x u frozen k = record {
-    grows = λ f e. goes_back z.slots f (record { ty = u; frozen = frozen }) e;
+    adds = adds_one g z.slots (record { ty = u; frozen = frozen }) k;
     test = λ f vis e h. initial_none f (length z.slots ∷ vis) u frozen (slice_get f (length z.slots)) (there z.slots f (record { ty = u; frozen = frozen }) e);
-    sees = λ f vis e h. sees_more z f vis x u frozen k e h;
+    sees = λ f vis e h. sees_more z f vis x u frozen (slot_type u frozen k) e h;
   }
 
-  declared_some : (z : Scope) (p : Spot) (x : List ℕ) (u : CType) (frozen : Bool) (v : TExpr) → is_type g.sizes g.public u ≡ true → test.is_held u ≡ true → Turned (add x u frozen z) u v → DoneDeclared z (record { spot = p; slot = length z.slots; init = Some v }) (add x u frozen z)
+  declared_some : (z : Scope) (p : Spot) (x : List ℕ) (u : CType) (frozen : Bool) (v : TExpr) → IsSlot u frozen → test.is_held u ≡ true → Turned (add x u frozen z) u v → DoneDeclared z (record { spot = p; slot = length z.slots; init = Some v }) (add x u frozen z)
   declared_some z p x u frozen v k h t = record {
-    grows = λ f e. goes_back z.slots f (record { ty = u; frozen = frozen }) e;
-    test = λ f vis e i. initial_test f (length z.slots ∷ vis) u frozen (slice_get f (length z.slots)) v (there z.slots f (record { ty = u; frozen = frozen }) e) h (t f (length z.slots ∷ vis) (sees_more z f vis x u frozen k e i));
-    sees = λ f vis e i. sees_more z f vis x u frozen k e i;
+    adds = adds_one g z.slots (record { ty = u; frozen = frozen }) k;
+    test = λ f vis e i. initial_test f (length z.slots ∷ vis) u frozen (slice_get f (length z.slots)) v (there z.slots f (record { ty = u; frozen = frozen }) e) h (t f (length z.slots ∷ vis) (sees_more z f vis x u frozen (slot_type u frozen k) e i));
+    sees = λ f vis e i. sees_more z f vis x u frozen (slot_type u frozen k) e i;
   }
 
-  initial_done : (z : Scope) (p : Spot) (x : List ℕ) (u : CType) (frozen : Bool) (o : Option Expr) → is_type g.sizes g.public u ≡ true → GrammaticalOption o → IfOk (bind (walk.initial r u o) (λ v. pure (record { spot = p; slot = length z.slots; init = v })) (add x u frozen z)) (λ q. DoneDeclared z q.0 q.1)
+  initial_done : (z : Scope) (p : Spot) (x : List ℕ) (u : CType) (frozen : Bool) (o : Option Expr) → IsSlot u frozen → GrammaticalOption o → IfOk (bind (walk.initial r u o) (λ v. pure (record { spot = p; slot = length z.slots; init = v })) (add x u frozen z)) (λ q. DoneDeclared z q.0 q.1)
   unfolding next
   initial_done z p x u frozen None k h = declared_none z p x u frozen k
   initial_done z p x u frozen (Some e) k h =
       with_part (λ q. (v : TExpr) × (q.0 ≡ Some v) × (q.1 ≡ add x u frozen z) × (test.is_held u ≡ true) × Turned (add x u frozen z) u v) (λ q. DoneDeclared z q.0 q.1) (walk.initial r u (Some e)) (λ v. pure (record { spot = p; slot = length z.slots; init = v })) (add x u frozen z)
       (with_value (λ q. (v : TExpr) × (q.0 ≡ Some v) × (q.1 ≡ add x u frozen z) × (test.is_held u ≡ true) × Turned (add x u frozen z) u v) e (λ v. bind (ask (lookup.convert u v)) (λ x. pure (Some x))) (add x u frozen z) h
-      (λ v i. with_convert (λ q. (v : TExpr) × (q.0 ≡ Some v) × (q.1 ≡ add x u frozen z) × (test.is_held u ≡ true) × Turned (add x u frozen z) u v) u v (λ x. pure (Some x)) (add x u frozen z) (λ c. (lookup.converted u v, refl, refl, held_of v.ty u c, turned_value (add x u frozen z) u v k i c))))
+      (λ v i. with_convert (λ q. (v : TExpr) × (q.0 ≡ Some v) × (q.1 ≡ add x u frozen z) × (test.is_held u ≡ true) × Turned (add x u frozen z) u v) u v (λ x. pure (Some x)) (add x u frozen z) (λ c. (lookup.converted u v, refl, refl, held_of v.ty u c, turned_value (add x u frozen z) u v (slot_type u frozen k) i c))))
       (λ a t q. subst (λ t. DoneDeclared z (record { spot = p; slot = length z.slots; init = a }) t) (sym q.2) (subst (λ a. DoneDeclared z (record { spot = p; slot = length z.slots; init = a }) (add x u frozen z)) (sym q.1) (declared_some z p x u frozen q.0 k q.3 q.4)))
 
   declare_done : (d : Declared) (z : Scope) → GrammaticalOption d.init → IfOk (declare r d z) (λ q. DoneDeclared z q.0 q.1)
   unfolding next
   declare_done d z h = on (field_type r d.field) (not (is_taken z.seen z.level d.field.name)) around_declared
     where
-      around_declared : (u : CType) → field_type r d.field ≡ Ok u → is_type g.sizes g.public u ≡ true
+      around_declared : (u : CType) → field_type r d.field ≡ Ok u → IsSlot u (is_frozen_place d.field.base d.field.stars)
       around_declared u q = around.declared d.field u q
-      on : (m : Judged CType) (b : Bool) → ((u : CType) → m ≡ Ok u → is_type g.sizes g.public u ≡ true) → IfOk (next m (λ ty. next (needs d.field.spot T2 b) (λ _. bind {B = made_declared.TDeclared} (walk.initial r ty d.init) (λ v. pure (record { spot = d.field.spot; slot = length z.slots; init = v })) (add d.field.name ty (is_frozen_place d.field.base d.field.stars) z)))) (λ q. DoneDeclared z q.0 q.1)
+      on : (m : Judged CType) (b : Bool) → ((u : CType) → m ≡ Ok u → IsSlot u (is_frozen_place d.field.base d.field.stars)) → IfOk (next m (λ ty. next (needs d.field.spot T2 b) (λ _. bind {B = made_declared.TDeclared} (walk.initial r ty d.init) (λ v. pure (record { spot = d.field.spot; slot = length z.slots; init = v })) (add d.field.name ty (is_frozen_place d.field.base d.field.stars) z)))) (λ q. DoneDeclared z q.0 q.1)
       on (Ok u) true i = initial_done z d.field.spot d.field.name u (is_frozen_place d.field.base d.field.stars) d.init (i u refl) h
       on (Ok u) false i = tt
       on (Err e) b i = tt
 
   pub record DoneAll (z : Scope) (xs : List made_declared.TDeclared) (t : Scope) : Type 0 where
-    pub grows : (f : List SlotType) → Goes t.slots f → Goes z.slots f
+    pub adds : Adds g z.slots t.slots (typed.slots_of xs)
     pub test : (f : List SlotType) (vis : List ℕ) → Goes t.slots f → Sees vis z.seen f → typed.declares (among f) vis xs ≡ true
     pub sees : (f : List SlotType) (vis : List ℕ) → Goes t.slots f → Sees vis z.seen f → Sees (visible.after_all vis xs) t.seen f
 
   declare_all_done : (ds : List Declared) (z : Scope) → GrammaticalDeclared ds → IfOk (declare_all r ds z) (λ q. DoneAll z q.0 q.1)
-  declare_all_done [] z h = record { grows = λ f e. e; test = λ f vis e i. refl; sees = λ f vis e i. i }
+  declare_all_done [] z h = record { adds = adds_none g z.slots; test = λ f vis e i. refl; sees = λ f vis e i. i }
   declare_all_done (d ∷ ds) z h =
       with_part (λ q. DoneDeclared z q.0 q.1) (λ q. DoneAll z q.0 q.1) (declare r d) (λ x. bind (declare_all r ds) (λ xs. pure (x ∷ xs))) z (declare_done d z h.0)
       (λ x t a. with_part (λ q. DoneAll t q.0 q.1) (λ q. DoneAll z q.0 q.1) (declare_all r ds) (λ xs. pure (x ∷ xs)) t (declare_all_done ds t h.1)
       (λ xs w b. record {
-        grows = λ f e. a.grows f (b.grows f e);
-        test = λ f vis e i. both (a.test f vis (b.grows f e) i) (b.test f (x.slot ∷ vis) e (a.sees f vis (b.grows f e) i));
-        sees = λ f vis e i. b.sees f (x.slot ∷ vis) e (a.sees f vis (b.grows f e) i);
+        adds = adds_both g z.slots t.slots w.slots (x.slot ∷ []) (typed.slots_of xs) a.adds b.adds;
+        test = λ f vis e i. both (a.test f vis (b.adds.grows f e) i) (b.test f (x.slot ∷ vis) e (a.sees f vis (b.adds.grows f e) i));
+        sees = λ f vis e i. b.sees f (x.slot ∷ vis) e (a.sees f vis (b.adds.grows f e) i);
       }))
 
   -- Statements.
 
   -- a statement, of which it is known whether it declares
   pub record Done (declares : Bool) (loop : Bool) (z : Scope) (x : made_stmt.TStmt) (t : Scope) : Type 0 where
-    pub grows : (f : List SlotType) → Goes t.slots f → Goes z.slots f
+    pub adds : Adds g z.slots t.slots (typed.slots_in x.node)
     pub test : (f : List SlotType) (vis : List ℕ) → Goes t.slots f → Sees vis z.seen f → typed.stmt (among f) loop vis x.node ≡ true
     pub sees : (f : List SlotType) (vis : List ℕ) → Goes t.slots f → Sees vis z.seen f → Sees (visible.after_node vis x.node) t.seen f
     pub still : declares ≡ false → (vis : List ℕ) → visible.after_node vis x.node ≡ vis
 
   -- a statement's part: what was visible stays so
   pub record DonePart (loop : Bool) (z : Scope) (x : made_stmt.TStmt) (t : Scope) : Type 0 where
-    pub grows : (f : List SlotType) → Goes t.slots f → Goes z.slots f
+    pub adds : Adds g z.slots t.slots (typed.slots_in x.node)
     pub test : (f : List SlotType) (vis : List ℕ) → Goes t.slots f → Sees vis z.seen f → typed.stmt (among f) loop vis x.node ≡ true
     pub sees : (f : List SlotType) (vis : List ℕ) → Goes t.slots f → Sees vis z.seen f → Sees vis t.seen f
 
   as_part : (d loop : Bool) (z : Scope) (x : made_stmt.TStmt) (t : Scope) → d ≡ false → Done d loop z x t → DonePart loop z x t
-  as_part d loop z x t q h = record { grows = h.grows; test = h.test; sees = λ f vis e i. subst (λ v. Sees v t.seen f) (h.still q vis) (h.sees f vis e i) }
+  as_part d loop z x t q h = record { adds = h.adds; test = h.test; sees = λ f vis e i. subst (λ v. Sees v t.seen f) (h.still q vis) (h.sees f vis e i) }
 
   abbrev other_test : List SlotType → Bool → List ℕ → Option made_stmt.TStmt → Type 0
   other_test f loop vis None = Unit {0}
   other_test f loop vis (Some x) = typed.stmt (among f) loop vis x.node ≡ true
 
   pub record DoneOther (loop : Bool) (z : Scope) (o : Option made_stmt.TStmt) (t : Scope) : Type 0 where
-    pub grows : (f : List SlotType) → Goes t.slots f → Goes z.slots f
+    pub adds : Adds g z.slots t.slots (slots_after o)
     pub test : (f : List SlotType) (vis : List ℕ) → Goes t.slots f → Sees vis z.seen f → other_test f loop vis o
     pub sees : (f : List SlotType) (vis : List ℕ) → Goes t.slots f → Sees vis z.seen f → Sees vis t.seen f
 
@@ -274,7 +272,7 @@ module _ (r : Lookup) (g : Context) (around : AgreesApart r g) where
   rows_test f loop vis (x ∷ xs) = typed.stmt (among f) loop vis x.node && rows_test f loop (visible.after_node vis x.node) xs
 
   pub record DoneRows (loop : Bool) (z : Scope) (xs : List made_stmt.TStmt) (t : Scope) : Type 0 where
-    pub grows : (f : List SlotType) → Goes t.slots f → Goes z.slots f
+    pub adds : Adds g z.slots t.slots (typed.slots_in_all xs)
     pub test : (f : List SlotType) (vis : List ℕ) → Goes t.slots f → Sees vis z.seen f → rows_test f loop vis xs ≡ true
 
   abbrev stmts_of : (ss : List made_stmt.TStmt) → s.Row_of-TStmt (list_count (this {0}) (lists.map (λ x. (this {0}).shape made_stmt.TStmt x) ss) 0)
@@ -288,6 +286,37 @@ module _ (r : Lookup) (g : Context) (around : AgreesApart r g) where
   block_node : (f : List SlotType) (loop : Bool) (vis : List ℕ) (ss : List made_stmt.TStmt) → rows_test f loop vis ss ≡ true → typed.stmt (among f) loop vis (s.Block ss) ≡ true
   unfolding hidden-the_row-TStmt-1 hidden
   block_node f loop vis ss h = rows_same f loop vis ss ∙ h
+
+  slots_same : (ss : List made_stmt.TStmt) → typed.slots_in_rows (stmts_of ss) ≡ typed.slots_in_all ss
+  unfolding hidden
+  slots_same [] = refl
+  slots_same (x ∷ xs) = ap (λ l. typed.slots_in x.node ++ l) (slots_same xs)
+
+  block_slots : (ss : List made_stmt.TStmt) → typed.slots_in (s.Block ss) ≡ typed.slots_in_all ss
+  unfolding hidden-the_row-TStmt-1 hidden
+  block_slots ss = slots_same ss
+
+  if_slots : (c : TExpr) (a : made_stmt.TStmt) (b : Option made_stmt.TStmt) → typed.slots_in (s.If c a b) ≡ typed.slots_in a.node ++ slots_after b
+  unfolding hidden-the_row-TStmt-0 hidden-the_row-TStmt-1 hidden
+  if_slots c a None = refl
+  if_slots c a (Some b) = refl
+
+  hidden_slots : (c : TExpr) (a : made_stmt.TStmt) (b : Option made_stmt.TStmt) → typed.slots_in (s.OblivIf c a b) ≡ typed.slots_in a.node ++ slots_after b
+  unfolding hidden-the_row-TStmt-0 hidden-the_row-TStmt-1 hidden
+  hidden_slots c a None = refl
+  hidden_slots c a (Some b) = refl
+
+  while_slots : (c : TExpr) (a : made_stmt.TStmt) → typed.slots_in (s.While c a) ≡ typed.slots_in a.node
+  unfolding hidden-the_row-TStmt-0 hidden-the_row-TStmt-1 hidden
+  while_slots c a = refl
+
+  always_slots : (n : ℕ) (p : Spot) (ss : List made_stmt.TStmt) → typed.slots_in (s.Always n (made_stmt.roll-TStmt (record { spot = p; node = s.Block ss }))) ≡ n ∷ typed.slots_in_all ss
+  unfolding hidden-the_row-TStmt-0 hidden-the_row-TStmt-1 hidden
+  always_slots n p ss = ap (λ l. n ∷ l) (slots_same ss)
+
+  for_slots : (i : made_init.TForInit) (c v : Option TExpr) (a : made_stmt.TStmt) → typed.slots_in (s.For i c v a) ≡ typed.slots_of_header i ++ typed.slots_in a.node
+  unfolding hidden-the_row-TStmt-0 hidden-the_row-TStmt-1 hidden
+  for_slots i c v a = refl
 
   block_still : (ss : List made_stmt.TStmt) (vis : List ℕ) → visible.after_node vis (s.Block ss) ≡ vis
   unfolding hidden-the_row-TStmt-1 hidden
@@ -378,16 +407,16 @@ module _ (r : Lookup) (g : Context) (around : AgreesApart r g) where
   with_condition Q p (Some v) k z u f = with_public Q p v.ty k z (λ c. f (λ w q. subst (λ w. test.is_public w.ty ≡ true) (some_is q) c))
 
   pub record DoneHeader (z : Scope) (i : made_init.TForInit) (t : Scope) : Type 0 where
-    pub grows : (f : List SlotType) → Goes t.slots f → Goes z.slots f
+    pub adds : Adds g z.slots t.slots (typed.slots_of_header i)
     pub test : (f : List SlotType) (vis : List ℕ) → Goes t.slots f → Sees vis z.seen f → typed.header (among f) vis i ≡ true
     pub sees : (f : List SlotType) (vis : List ℕ) → Goes t.slots f → Sees vis z.seen f → Sees (visible.after_header vis i) t.seen f
 
   header_done : (i : ForInit) (z : Scope) → GrammaticalHeader i → IfOk (walk.header r i z) (λ q. DoneHeader z q.0 q.1)
-  header_done begin.Nothing z h = record { grows = λ f e. e; test = λ f vis e i. refl; sees = λ f vis e i. i }
+  header_done begin.Nothing z h = record { adds = adds_none g z.slots; test = λ f vis e i. refl; sees = λ f vis e i. i }
   header_done (begin.Declare ds) z h =
-      with_part (λ q. DoneAll z q.0 q.1) (λ q. DoneHeader z q.0 q.1) (declare_all r ds) (λ xs. pure (init.Declare xs)) z (declare_all_done ds z h) (λ xs t a. record { grows = a.grows; test = a.test; sees = a.sees })
+      with_part (λ q. DoneAll z q.0 q.1) (λ q. DoneHeader z q.0 q.1) (declare_all r ds) (λ xs. pure (init.Declare xs)) z (declare_all_done ds z h) (λ xs t a. record { adds = a.adds; test = a.test; sees = a.sees })
   header_done (begin.Express e) z h =
-      with_used (λ q. DoneHeader z q.0 q.1) e (λ v. pure (init.Express v)) z h (λ v i n. record { grows = λ f e. e; test = λ f vis e j. both (n f vis j) (i f vis j); sees = λ f vis e j. j })
+      with_used (λ q. DoneHeader z q.0 q.1) e (λ v. pure (init.Express v)) z h (λ v i n. record { adds = adds_none g z.slots; test = λ f vis e j. both (n f vis j) (i f vis j); sees = λ f vis e j. j })
 
   maybe_condition : (f : List SlotType) (vis : List ℕ) (z : Scope) (o : Option TExpr) → PassedOption z o → ((v : TExpr) → o ≡ Some v → test.is_public v.ty ≡ true) → Sees vis z.seen f → typed.maybe (typed.condition (among f) vis) o ≡ true
   maybe_condition f vis z None h i j = refl
@@ -399,24 +428,24 @@ module _ (r : Lookup) (g : Context) (around : AgreesApart r g) where
 
   -- a statement with a scope of its own, before its names end
   pub record Inner (loop : Bool) (z : Scope) (x : made_stmt.TStmt) (t : Scope) : Type 0 where
-    pub grows : (f : List SlotType) → Goes t.slots f → Goes z.slots f
+    pub adds : Adds g z.slots t.slots (typed.slots_in x.node)
     pub test : (f : List SlotType) (vis : List ℕ) → Goes t.slots f → Sees vis z.seen f → typed.stmt (among f) loop vis x.node ≡ true
     pub still : (vis : List ℕ) → visible.after_node vis x.node ≡ vis
 
   pub record DoneBlock (loop : Bool) (z : Scope) (xs : List made_stmt.TStmt) (t : Scope) : Type 0 where
-    pub grows : (f : List SlotType) → Goes t.slots f → Goes z.slots f
+    pub adds : Adds g z.slots t.slots (typed.slots_in_all xs)
     pub test : (f : List SlotType) (vis : List ℕ) → Goes t.slots f → Sees vis z.seen f → rows_test f loop vis xs ≡ true
     pub sees : t.seen ≡ z.seen
 
   from_inner : (d loop : Bool) (z : Scope) (x : made_stmt.TStmt) (t : Scope) → Inner loop z x t → Done d loop z x (record { seen = z.seen; slots = t.slots; level = z.level })
-  from_inner d loop z x t h = record { grows = h.grows; test = h.test; sees = λ f vis e i. subst (λ v. Sees v z.seen f) (sym (h.still vis)) i; still = λ q vis. h.still vis }
+  from_inner d loop z x t h = record { adds = h.adds; test = h.test; sees = λ f vis e i. subst (λ v. Sees v z.seen f) (sym (h.still vis)) i; still = λ q vis. h.still vis }
 
   returned_done : (loop : Bool) (p : Spot) (o : Option TExpr) (z : Scope) → PassedOption z o → IfOk (bind (ask (walk.returned r p o)) (λ x. walk.made p (s.Return x)) z) (λ q. Done false loop z q.0 q.1)
   unfolding next
   returned_done loop p None z h = on (is_nothing r.result) (λ q. subst (λ u. is_nothing u ≡ true) around.same_result q)
     where
       on : (b : Bool) → (b ≡ true → is_nothing g.result ≡ true) → IfOk (next {A = Option TExpr × Scope} (next {A = Option TExpr} (next {A = Unit {0}} (needs p T3 b) (λ _. Ok None)) (λ a. Ok (a, z))) (λ x. walk.made p (s.Return x.0) x.1)) (λ q. Done false loop z q.0 q.1)
-      on true f = record { grows = λ l e. e; test = λ l vis e i. f refl; sees = λ l vis e i. i; still = λ q vis. refl }
+      on true f = record { adds = adds_none g z.slots; test = λ l vis e i. f refl; sees = λ l vis e i. i; still = λ q vis. refl }
       on false f = tt
   returned_done loop p (Some v) z h = on (not (is_nothing r.result)) (λ q. subst (λ u. not (is_nothing u) ≡ true) around.same_result q)
     where
@@ -425,14 +454,14 @@ module _ (r : Lookup) (g : Context) (around : AgreesApart r g) where
       on true f = give (judging.converts v.ty r.result) (judging.converts (judging.bare v.ty) (judging.bare r.result)) (λ c. turned_value z r.result v (subst (λ u. is_type g.sizes g.public u ≡ true) (sym around.same_result) (around.back (f refl))) h.0 c)
         where
           give : (c d : Bool) → (c ≡ true → Turned z r.result (lookup.converted r.result v)) → IfOk (next {A = Option TExpr × Scope} (next {A = Option TExpr} (next {A = TExpr} (next {A = Unit {0}} (if c then Ok (tt {0}) else if d then breaks v.spot T4 else breaks v.spot T3) (λ _. Ok (lookup.converted r.result v))) (λ x. Ok (Some x))) (λ a. Ok (a, z))) (λ x. walk.made p (s.Return x.0) x.1)) (λ q. Done false loop z q.0 q.1)
-          give true d t = record { grows = λ l e. e; test = λ l vis e i. let w = t refl l vis i in three (f refl) (subst (λ u. same true u g.result ≡ true) (sym (w.ty ∙ around.same_result)) (itself g.result)) w.good; sees = λ l vis e i. i; still = λ q vis. refl }
+          give true d t = record { adds = adds_none g z.slots; test = λ l vis e i. let w = t refl l vis i in three (f refl) (subst (λ u. same true u g.result ≡ true) (sym (w.ty ∙ around.same_result)) (itself g.result)) w.good; sees = λ l vis e i. i; still = λ q vis. refl }
           give false true t = tt
           give false false t = tt
 
   always_done : (loop : Bool) (p q : Spot) (x : List ℕ) (z : Scope) (ss : List made_stmt.TStmt) (t : Scope) → DoneBlock loop (add x (Int KBool true) false z) ss t → Inner loop z (made_stmt.roll-TStmt (record { spot = p; node = s.Always (length z.slots) (made_stmt.roll-TStmt (record { spot = q; node = s.Block ss })) })) t
   always_done loop p q x z ss t h = record {
-    grows = λ f e. goes_back z.slots f (record { ty = Int KBool true; frozen = false }) (h.grows f e);
-    test = λ f vis e i. always_node f loop vis (length z.slots) q ss (has_itself (Int KBool true) false _ (there z.slots f (record { ty = Int KBool true; frozen = false }) (h.grows f e))) (h.test f (length z.slots ∷ vis) e (sees_more z f vis x (Int KBool true) false refl (h.grows f e) i));
+    adds = subst (λ l. Adds g z.slots t.slots l) (sym (always_slots (length z.slots) q ss)) (adds_both g z.slots (z.slots ++ record { ty = Int KBool true; frozen = false } ∷ []) t.slots (length z.slots ∷ []) (typed.slots_in_all ss) (adds_one g z.slots (record { ty = Int KBool true; frozen = false }) refl) h.adds);
+    test = λ f vis e i. always_node f loop vis (length z.slots) q ss (has_itself (Int KBool true) false _ (there z.slots f (record { ty = Int KBool true; frozen = false }) (h.adds.grows f e))) (h.test f (length z.slots ∷ vis) e (sees_more z f vis x (Int KBool true) false refl (h.adds.grows f e) i));
     still = λ vis. always_still (length z.slots) (made_stmt.roll-TStmt (record { spot = q; node = s.Block ss })) vis;
   }
 
@@ -441,47 +470,47 @@ module _ (r : Lookup) (g : Context) (around : AgreesApart r g) where
   part_of d loop z (Err b) q h = tt
 
   rows_none : (loop : Bool) (z : Scope) → DoneRows loop z [] z
-  rows_none loop z = record { grows = λ f e. e; test = λ f vis e i. refl }
+  rows_none loop z = record { adds = adds_none g z.slots; test = λ f vis e i. refl }
 
   rows_more : (d loop : Bool) (z : Scope) (m : Walk made_stmt.TStmt) (rest : Walk (List made_stmt.TStmt)) → IfOk (m z) (λ q. Done d loop z q.0 q.1) → ((t : Scope) → IfOk (rest t) (λ q. DoneRows loop t q.0 q.1)) → IfOk (bind m (λ x. bind rest (λ xs. pure (x ∷ xs))) z) (λ q. DoneRows loop z q.0 q.1)
   rows_more d loop z m rest h f =
       with_part (λ q. Done d loop z q.0 q.1) (λ q. DoneRows loop z q.0 q.1) m (λ x. bind rest (λ xs. pure (x ∷ xs))) z h (λ x t a.
       with_part (λ q. DoneRows loop t q.0 q.1) (λ q. DoneRows loop z q.0 q.1) rest (λ xs. pure (x ∷ xs)) t (f t) (λ xs w b. record {
-        grows = λ l e. a.grows l (b.grows l e);
-        test = λ l vis e i. both (a.test l vis (b.grows l e) i) (b.test l (visible.after_node vis x.node) e (a.sees l vis (b.grows l e) i));
+        adds = adds_both g z.slots t.slots w.slots (typed.slots_in x.node) (typed.slots_in_all xs) a.adds b.adds;
+        test = λ l vis e i. both (a.test l vis (b.adds.grows l e) i) (b.test l (visible.after_node vis x.node) e (a.sees l vis (b.adds.grows l e) i));
       }))
 
   header_level : (i : ForInit) (z : Scope) → GrammaticalHeader i → IfOk (walk.header r i (record z { level = z.level + 1 })) (λ q. DoneHeader z q.0 q.1)
   header_level i z h = weaker (walk.header r i (record z { level = z.level + 1 })) (header_done i (record z { level = z.level + 1 }) h)
     where
       weaker : (m : Judged (made_init.TForInit × Scope)) → IfOk m (λ q. DoneHeader (record z { level = z.level + 1 }) q.0 q.1) → IfOk m (λ q. DoneHeader z q.0 q.1)
-      weaker (Ok x) h = record { grows = h.grows; test = h.test; sees = h.sees }
+      weaker (Ok x) h = record { adds = h.adds; test = h.test; sees = h.sees }
       weaker (Err b) h = tt
 
   inner_level : (loop : Bool) (p q : Spot) (x : List ℕ) (z : Scope) (ss : List made_stmt.TStmt) (t : Scope) → DoneBlock loop (add x (Int KBool true) false (record z { level = z.level + 1 })) ss t → Inner loop z (made_stmt.roll-TStmt (record { spot = p; node = s.Always (length z.slots) (made_stmt.roll-TStmt (record { spot = q; node = s.Block ss })) })) t
   inner_level loop p q x z ss t h =
       let k = always_done loop p q x (record z { level = z.level + 1 }) ss t h in
-      record { grows = k.grows; test = k.test; still = k.still }
+      record { adds = k.adds; test = k.test; still = k.still }
 
   mutual
     unfolding next
     pub stmt_done : (c : StmtNode) (loop : Bool) (p : Spot) (z : Scope) → GrammaticalStmt c → IfOk (walk.stmt r loop p c z) (λ q. Done (is_declaration c) loop z q.0 q.1)
     stmt_done (Declare ds) loop p z h =
         with_part (λ q. DoneAll z q.0 q.1) (λ q. Done true loop z q.0 q.1) (declare_all r ds) (λ xs. walk.made p (s.Declare xs)) z (declare_all_done ds z h)
-        (λ xs t a. record { grows = a.grows; test = a.test; sees = a.sees; still = λ q vis. never (sym q) })
+        (λ xs t a. record { adds = a.adds; test = a.test; sees = a.sees; still = λ q vis. never (sym q) })
     stmt_done (Express e) loop p z h =
-        with_alone (λ q. Done false loop z q.0 q.1) e (λ v. walk.made p (s.Express v)) z h (λ v i. record { grows = λ f e. e; test = λ f vis e j. i f vis j; sees = λ f vis e j. j; still = λ q vis. refl })
+        with_alone (λ q. Done false loop z q.0 q.1) e (λ v. walk.made p (s.Express v)) z h (λ v i. record { adds = adds_none g z.slots; test = λ f vis e j. i f vis j; sees = λ f vis e j. j; still = λ q vis. refl })
     stmt_done (Block' _ ss) loop p z h =
         with_part (λ q. DoneBlock loop z q.0 q.1) (λ q. Done false loop z q.0 q.1) (scoped (walk.stmts r loop ss)) (λ xs. walk.made p (s.Block xs)) z (block_done ss loop z h)
-        (λ xs t a. record { grows = a.grows; test = λ f vis e i. block_node f loop vis xs (a.test f vis e i); sees = λ f vis e i. subst (λ v. Sees v t.seen f) (sym (block_still xs vis)) (subst (λ l. Sees vis l f) (sym a.sees) i); still = λ q vis. block_still xs vis })
+        (λ xs t a. record { adds = subst (λ l. Adds g z.slots t.slots l) (sym (block_slots xs)) a.adds; test = λ f vis e i. block_node f loop vis xs (a.test f vis e i); sees = λ f vis e i. subst (λ v. Sees v t.seen f) (sym (block_still xs vis)) (subst (λ l. Sees vis l f) (sym a.sees) i); still = λ q vis. block_still xs vis })
     stmt_done (If' c _ y n) loop p z h =
         with_value (λ q. Done false loop z q.0 q.1) c (λ v. bind (ask (public_integer p v.ty)) (λ _. bind (walk.part r loop y) (λ a. bind (walk.other r loop n) (λ b. walk.made p (s.If v a b))))) z h.0 (λ v i.
         with_public (λ q. Done false loop z q.0 q.1) p v.ty (bind (walk.part r loop y) (λ a. bind (walk.other r loop n) (λ b. walk.made p (s.If v a b)))) z (λ k.
         with_part (λ q. DonePart loop z q.0 q.1) (λ q. Done false loop z q.0 q.1) (walk.part r loop y) (λ a. bind (walk.other r loop n) (λ b. walk.made p (s.If v a b))) z (part_done y loop z h.1) (λ a t d.
         with_part (λ q. DoneOther loop t q.0 q.1) (λ q. Done false loop z q.0 q.1) (walk.other r loop n) (λ b. walk.made p (s.If v a b)) t (other_done n loop t h.2) (λ o w b. record {
-          grows = λ f e. d.grows f (b.grows f e);
-          test = λ f vis e j. if_node f loop vis v a o (both k (i f vis j)) (d.test f vis (b.grows f e) j) (b.test f vis e (d.sees f vis (b.grows f e) j));
-          sees = λ f vis e j. subst (λ u. Sees u w.seen f) (sym (if_still v a o vis)) (b.sees f vis e (d.sees f vis (b.grows f e) j));
+          adds = subst (λ l. Adds g z.slots w.slots l) (sym (if_slots v a o)) (adds_both g z.slots t.slots w.slots (typed.slots_in a.node) (slots_after o) d.adds b.adds);
+          test = λ f vis e j. if_node f loop vis v a o (both k (i f vis j)) (d.test f vis (b.adds.grows f e) j) (b.test f vis e (d.sees f vis (b.adds.grows f e) j));
+          sees = λ f vis e j. subst (λ u. Sees u w.seen f) (sym (if_still v a o vis)) (b.sees f vis e (d.sees f vis (b.adds.grows f e) j));
           still = λ q vis. if_still v a o vis;
         }))))
     stmt_done (OblivIf' c _ y n) loop p z h =
@@ -489,9 +518,9 @@ module _ (r : Lookup) (g : Context) (around : AgreesApart r g) where
         with_needs (λ q. Done false loop z q.0 q.1) p T3 (judging.is_integer v.ty) (bind (walk.part r loop y) (λ a. bind (walk.other r loop n) (λ b. walk.made p (s.OblivIf (lookup.converted (Int KBool true) v) a b)))) z (λ k.
         with_part (λ q. DonePart loop z q.0 q.1) (λ q. Done false loop z q.0 q.1) (walk.part r loop y) (λ a. bind (walk.other r loop n) (λ b. walk.made p (s.OblivIf (lookup.converted (Int KBool true) v) a b))) z (part_done y loop z h.1) (λ a t d.
         with_part (λ q. DoneOther loop t q.0 q.1) (λ q. Done false loop z q.0 q.1) (walk.other r loop n) (λ b. walk.made p (s.OblivIf (lookup.converted (Int KBool true) v) a b)) t (other_done n loop t h.2) (λ o w b. record {
-          grows = λ f e. d.grows f (b.grows f e);
-          test = λ f vis e j. hidden_node f loop vis (lookup.converted (Int KBool true) v) a o (int_good (among f) vis KBool true v (i f vis j) k (hidden_last (judging.is_hidden v.ty))) (d.test f vis (b.grows f e) j) (b.test f vis e (d.sees f vis (b.grows f e) j));
-          sees = λ f vis e j. subst (λ u. Sees u w.seen f) (sym (hidden_still (lookup.converted (Int KBool true) v) a o vis)) (b.sees f vis e (d.sees f vis (b.grows f e) j));
+          adds = subst (λ l. Adds g z.slots w.slots l) (sym (hidden_slots (lookup.converted (Int KBool true) v) a o)) (adds_both g z.slots t.slots w.slots (typed.slots_in a.node) (slots_after o) d.adds b.adds);
+          test = λ f vis e j. hidden_node f loop vis (lookup.converted (Int KBool true) v) a o (int_good (among f) vis KBool true v (i f vis j) k (hidden_last (judging.is_hidden v.ty))) (d.test f vis (b.adds.grows f e) j) (b.test f vis e (d.sees f vis (b.adds.grows f e) j));
+          sees = λ f vis e j. subst (λ u. Sees u w.seen f) (sym (hidden_still (lookup.converted (Int KBool true) v) a o vis)) (b.sees f vis e (d.sees f vis (b.adds.grows f e) j));
           still = λ q vis. hidden_still (lookup.converted (Int KBool true) v) a o vis;
         }))))
     stmt_done (Always' x _ (more_of-Stmt q (Block' _ ss) rest)) loop p z h =
@@ -505,7 +534,7 @@ module _ (r : Lookup) (g : Context) (around : AgreesApart r g) where
         with_value (λ q. Done false loop z q.0 q.1) c (λ v. bind (ask (public_integer p v.ty)) (λ _. bind (walk.part r true b) (λ a. walk.made p (s.While v a)))) z h.0 (λ v i.
         with_public (λ q. Done false loop z q.0 q.1) p v.ty (bind (walk.part r true b) (λ a. walk.made p (s.While v a))) z (λ k.
         with_part (λ q. DonePart true z q.0 q.1) (λ q. Done false loop z q.0 q.1) (walk.part r true b) (λ a. walk.made p (s.While v a)) z (part_done b true z h.1) (λ a t d. record {
-          grows = d.grows;
+          adds = subst (λ l. Adds g z.slots t.slots l) (sym (while_slots v a)) d.adds;
           test = λ f vis e j. while_node f loop vis v a (both k (i f vis j)) (d.test f vis e j);
           sees = λ f vis e j. subst (λ u. Sees u t.seen f) (sym (while_still v a vis)) (d.sees f vis e j);
           still = λ q vis. while_still v a vis;
@@ -517,26 +546,26 @@ module _ (r : Lookup) (g : Context) (around : AgreesApart r g) where
         with_optional (λ y. Inner loop z y.0 y.1) v (λ w. bind (ask (walk.condition p y)) (λ _. bind (walk.part r true b) (λ a. walk.made p (s.For x y w a)))) t h.2 (λ w k.
         with_condition (λ y. Inner loop z y.0 y.1) p y (bind (walk.part r true b) (λ a. walk.made p (s.For x y w a))) t (λ _ _ _. tt) (λ l.
         with_part (λ y. DonePart true t y.0 y.1) (λ y. Inner loop z y.0 y.1) (walk.part r true b) (λ a. walk.made p (s.For x y w a)) t (part_done b true t h.3) (λ a m n. record {
-          grows = λ f e. d.grows f (n.grows f e);
-          test = λ f vis e o. let see = d.sees f vis (n.grows f e) o in for_node f loop vis x y w a (d.test f vis (n.grows f e) o) (maybe_condition f (visible.after_header vis x) t y j l see) (maybe_value f (visible.after_header vis x) t w k see) (n.test f (visible.after_header vis x) e see);
+          adds = subst (λ l. Adds g z.slots m.slots l) (sym (for_slots x y w a)) (adds_both g z.slots t.slots m.slots (typed.slots_of_header x) (typed.slots_in a.node) d.adds n.adds);
+          test = λ f vis e o. let see = d.sees f vis (n.adds.grows f e) o in for_node f loop vis x y w a (d.test f vis (n.adds.grows f e) o) (maybe_condition f (visible.after_header vis x) t y j l see) (maybe_value f (visible.after_header vis x) t w k see) (n.test f (visible.after_header vis x) e see);
           still = λ vis. for_still x y w a vis;
         }))))))
         (λ a t q. from_inner false loop z a t q)
     stmt_done (Return e) loop p z h = with_optional (λ q. Done false loop z q.0 q.1) e (λ v. bind (ask (walk.returned r p v)) (λ x. walk.made p (s.Return x))) z h (λ y i. returned_done loop p y z i)
-    stmt_done Break loop p z h = with_needs (λ q. Done false loop z q.0 q.1) p T12 loop (walk.made p s.Break) z (λ k. record { grows = λ f e. e; test = λ f vis e j. k; sees = λ f vis e j. j; still = λ q vis. refl })
-    stmt_done Continue loop p z h = with_needs (λ q. Done false loop z q.0 q.1) p T12 loop (walk.made p s.Continue) z (λ k. record { grows = λ f e. e; test = λ f vis e j. k; sees = λ f vis e j. j; still = λ q vis. refl })
-    stmt_done Empty loop p z h = record { grows = λ f e. e; test = λ f vis e j. refl; sees = λ f vis e j. j; still = λ q vis. refl }
+    stmt_done Break loop p z h = with_needs (λ q. Done false loop z q.0 q.1) p T12 loop (walk.made p s.Break) z (λ k. record { adds = adds_none g z.slots; test = λ f vis e j. k; sees = λ f vis e j. j; still = λ q vis. refl })
+    stmt_done Continue loop p z h = with_needs (λ q. Done false loop z q.0 q.1) p T12 loop (walk.made p s.Continue) z (λ k. record { adds = adds_none g z.slots; test = λ f vis e j. k; sees = λ f vis e j. j; still = λ q vis. refl })
+    stmt_done Empty loop p z h = record { adds = adds_none g z.slots; test = λ f vis e j. refl; sees = λ f vis e j. j; still = λ q vis. refl }
 
     part_done : (c : Row_of-Stmt 1) (loop : Bool) (z : Scope) → GrammaticalPart c → IfOk (walk.part r loop c z) (λ q. DonePart loop z q.0 q.1)
     part_done (more_of-Stmt p n rest) loop z h = part_of (is_declaration n) loop z (walk.stmt r loop p n z) h.0 (stmt_done n loop p z h.1)
 
     other_done : (c : Held-StmtNode-If-2) (loop : Bool) (z : Scope) → GrammaticalOther c → IfOk (walk.other r loop c z) (λ q. DoneOther loop z q.0 q.1)
-    other_done None' loop z h = record { grows = λ f e. e; test = λ f vis e i. tt; sees = λ f vis e i. i }
-    other_done (Some' _ y) loop z h = with_part (λ q. DonePart loop z q.0 q.1) (λ q. DoneOther loop z q.0 q.1) (walk.part r loop y) (λ x. pure (Some x)) z (part_done y loop z h) (λ x t a. record { grows = a.grows; test = a.test; sees = a.sees })
+    other_done None' loop z h = record { adds = adds_none g z.slots; test = λ f vis e i. tt; sees = λ f vis e i. i }
+    other_done (Some' _ y) loop z h = with_part (λ q. DonePart loop z q.0 q.1) (λ q. DoneOther loop z q.0 q.1) (walk.part r loop y) (λ x. pure (Some x)) z (part_done y loop z h) (λ x t a. record { adds = a.adds; test = a.test; sees = a.sees })
 
     block_done : {m : _} (c : Row_of-Stmt m) (loop : Bool) (z : Scope) → GrammaticalRows c → IfOk (scoped (walk.stmts r loop c) z) (λ q. DoneBlock loop z q.0 q.1)
-    block_done end_of-Stmt loop z h = scoped_ok (λ q. DoneRows loop (record z { level = z.level + 1 }) q.0 q.1) (λ q. DoneBlock loop z q.0 q.1) (walk.stmts r loop end_of-Stmt) z (rows_none loop (record z { level = z.level + 1 })) (λ a t q. record { grows = q.grows; test = q.test; sees = refl })
-    block_done (more_of-Stmt p n rest) loop z h = scoped_ok (λ q. DoneRows loop (record z { level = z.level + 1 }) q.0 q.1) (λ q. DoneBlock loop z q.0 q.1) (walk.stmts r loop (more_of-Stmt p n rest)) z (rows_more (is_declaration n) loop (record z { level = z.level + 1 }) (walk.stmt r loop p n) (walk.stmts r loop rest) (stmt_done n loop p (record z { level = z.level + 1 }) h.0) (λ t. rows_done rest loop t h.1)) (λ a t q. record { grows = q.grows; test = q.test; sees = refl })
+    block_done end_of-Stmt loop z h = scoped_ok (λ q. DoneRows loop (record z { level = z.level + 1 }) q.0 q.1) (λ q. DoneBlock loop z q.0 q.1) (walk.stmts r loop end_of-Stmt) z (rows_none loop (record z { level = z.level + 1 })) (λ a t q. record { adds = q.adds; test = q.test; sees = refl })
+    block_done (more_of-Stmt p n rest) loop z h = scoped_ok (λ q. DoneRows loop (record z { level = z.level + 1 }) q.0 q.1) (λ q. DoneBlock loop z q.0 q.1) (walk.stmts r loop (more_of-Stmt p n rest)) z (rows_more (is_declaration n) loop (record z { level = z.level + 1 }) (walk.stmt r loop p n) (walk.stmts r loop rest) (stmt_done n loop p (record z { level = z.level + 1 }) h.0) (λ t. rows_done rest loop t h.1)) (λ a t q. record { adds = q.adds; test = q.test; sees = refl })
 
     rows_done : {m : _} (c : Row_of-Stmt m) (loop : Bool) (z : Scope) → GrammaticalRows c → IfOk (walk.stmts r loop c z) (λ q. DoneRows loop z q.0 q.1)
     rows_done end_of-Stmt loop z h = rows_none loop z

@@ -8,7 +8,7 @@ use Rattle.oc_source.specs.declared.parsed.FieldDef.{FieldDef}
 use Rattle.oc_typed.specs.declared.typed.TExpr.{TExpr}
 use Rattle.oc_typed.specs.Visible.{is_among}
 use Rattle.oc_typing.specs.Rules.{all, is_type, is_nothing, field}
-use Rattle.oc_typing.specs.Typed.{Context, has_type, call, is_of_node, alone, place}
+use Rattle.oc_typing.specs.Typed.{Context, has_type, call, is_of_node, alone, place, is_slot}
 use Rattle.type_rules.specs.declared.judging.Seen.{Seen}
 use Rattle.type_rules.specs.declared.judging.Heading.{Heading}
 use Rattle.type_rules.specs.declared.judging.Found.{Found}
@@ -17,7 +17,7 @@ use Rattle.type_rules.specs.Judging.{Judged}
 use Rattle.type_rules.specs.Lookup.{Lookup, find}
 use Rattle.type_rules.specs.Operators.{field_in}
 use Rattle.type_rules.specs.Calls.{called, Known, types_of}
-use Rattle.type_rules.specs.Written.{type_name, field_type}
+use Rattle.type_rules.specs.Written.{type_name, field_type, is_frozen_place}
 
 -- a value that passes the test where these slots are visible, or a place of a type that does
 abbrev pub Good : Context → List ℕ → Found → Type 0
@@ -64,7 +64,8 @@ Goes a f = (b : List SlotType) × (f ≡ a ++ b)
 pub record AgreesApart (r : Lookup) (g : Context) : Type 0 where
   pub fields : (ss : List Seen) (f : List SlotType) (u : CType) (x : List ℕ) → GoodField (record g { slots = f }) (field_in (record r { seen = ss }) u x) u
   pub types : (ss : List Seen) (w : TypeName) (u : CType) → type_name (record r { seen = ss }) w ≡ Ok u → is_type g.sizes g.public u ≡ true
-  pub declared : (d : FieldDef) (u : CType) → field_type r d ≡ Ok u → is_type g.sizes g.public u ≡ true
+  pub declared : (d : FieldDef) (u : CType) → field_type r d ≡ Ok u
+      → is_slot g.sizes g.public (record { ty = u; frozen = is_frozen_place d.base d.stars }) ≡ true
   pub functions : (ss : List Seen) (f : List SlotType) (x : List ℕ) (n : ℕ) (h : Heading) → called (record r { seen = ss }) x ≡ Known n h
       → GoodFunction (record g { slots = f }) n h
   pub same_result : r.result ≡ g.result
