@@ -225,6 +225,7 @@ name_good g structs sizes w u e h q =
 -- what a declarator is: arrays of pointers to what it begins with
 pub record Declares (g : Lookup) (f : FieldDef) (u : CType) : Type 0 where
   pub base : CType
+  pub found : base_type g (nat_eq f.stars 0) f.base ≡ Ok base
   pub begins : Begins g (nat_eq f.stars 0) base
   pub lengths : are_lengths f.dims ≡ true
   pub fits : nat_le (cells (struct_cells g.structs) (arrays f.dims (starred f.base.frozen f.stars base))) 65536 ≡ true
@@ -236,6 +237,7 @@ declares g f u q =
     let n = needed f.base.spot T11 (are_lengths f.dims && nat_le (cells_of g (arrays f.dims (starred f.base.frozen f.stars z.0))) 65536) (Ok (normal g.public false (arrays f.dims (starred f.base.frozen f.stars z.0)))) u z.2 in
     record {
       base = z.0;
+      found = z.1;
       begins = begins g (nat_eq f.stars 0) f.base z.0 z.1;
       lengths = first (are_lengths f.dims) (nat_le (cells_of g (arrays f.dims (starred f.base.frozen f.stars z.0))) 65536) n.0;
       fits = second (are_lengths f.dims) (nat_le (cells_of g (arrays f.dims (starred f.base.frozen f.stars z.0))) 65536) n.0;

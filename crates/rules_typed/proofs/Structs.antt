@@ -1,0 +1,276 @@
+-- The structs that the rules find pass the test.
+use Rattle.std.proofs.Common.{ℕ, zero, suc, ◌+◌, ◌≡◌, List, [], ◌∷◌, ◌++◌, length, take, Option, Some, None, Ok, refl, sym, ap, ◌∙◌, subst, Bool, true, false, nat_eq, nat_lt, slice_index_or, arith, append-nil}
+use Rattle.std.specs.Prelude.{◌&&◌, ◌||◌, not, nat_le, slice_get}
+use Rattle.std.proofs.lemmas.Bool.{not-true}
+use Rattle.oc_cells.specs.declared.types.CType.{CType, Int, Pointer', Array', Struct, Nothing, Row_of-CType, more_of-CType, end_of-CType}
+use Rattle.oc_cells.specs.declared.types.CType.TheViews.{Pointer}
+use Rattle.oc_cells.specs.declared.types.CType.TheBlock.{hidden-the_row-CType-0}
+use denote.Hole.Carrier.{hidden}
+use Rattle.oc_cells.specs.declared.types.FieldType.{FieldType}
+use Rattle.oc_cells.specs.declared.types.StructType.{StructType}
+use Rattle.oc_cells.specs.Types.{holds_public, holds_public_row, some_public, public_after, public_structs, normal, normal_row}
+use Rattle.oc_cells.specs.Layout.{cells, field_cells, cells_after, struct_cells}
+use Rattle.oc_source.specs.declared.parsed.BaseName.{BaseName}
+use Rattle.oc_source.specs.declared.parsed.BaseKind.{BaseKind}
+use Rattle.oc_source.specs.declared.parsed.BaseKind.TheVariants as base
+use Rattle.oc_source.specs.declared.parsed.FieldDef.{FieldDef}
+use Rattle.oc_source.specs.declared.parsed.StructDef.{StructDef}
+use Rattle.oc_typing.specs.Rules.{all, is_type, is_sized, field_depth, is_new, differ, field_names, are_fields, is_struct_type, are_structs}
+use Rattle.oc_typing.specs.Rules as test
+use Rattle.type_rules.specs.declared.judging.TypeRule.TheVariants.{T1, T2, T11}
+use Rattle.type_rules.specs.Judging.{Judged, next, needs}
+use Rattle.type_rules.specs.Lookup.{Lookup, same_name}
+use Rattle.type_rules.specs.Written.{has_name, number_from, number_or, struct_named, base_kind, base_type, base_public, field_public, some_public_field, public_from, struct_names, starred, arrays, cells_of, fields, depths_after, struct_type, with_struct, structs_from}
+use Rattle.type_rules.proofs.Laws.{fine_back, not_both, parted}
+use Rattle.rules_typed.proofs.Bools.{never, both, three, first, second, none_some, some_is, number_itself}
+use Rattle.rules_typed.proofs.Slots.{one_on, length_one, all_on, all_one}
+use Rattle.rules_typed.proofs.WrittenTypes.{needed, is_cells, cells_at, Known, Least, Declares, declares, field_least, field_fits, field_good}
+
+-- Names.
+
+-- a name that is none of these is new to them
+pub new_before : (names : List (List ℕ)) (x : List ℕ) (ns : List (List ℕ)) → has_name names x ≡ false → all (λ y. is_new y ns) names ≡ true → all (λ y. is_new y (x ∷ ns)) names ≡ true
+new_before [] x ns h i = refl
+new_before (y ∷ ys) x ns h i =
+    both (both (other (same_name y x) (has_name ys x) h) (first (is_new y ns) (all (λ y. is_new y ns) ys) i))
+    (new_before ys x ns (rest (same_name y x) (has_name ys x) h) (second (is_new y ns) (all (λ y. is_new y ns) ys) i))
+  where
+    other : (a b : Bool) → (a || b) ≡ false → not a ≡ true
+    other true b h = sym h
+    other false b h = refl
+    rest : (a b : Bool) → (a || b) ≡ false → b ≡ false
+    rest true b h = never (sym h)
+    rest false b h = h
+
+-- Fields.
+
+-- fields that are judged one after another
+abbrev pub MadeFields : Lookup → List (List ℕ) → ℕ → List FieldDef → List FieldType → Type 0
+MadeFields g earlier at [] [] = Unit {0}
+MadeFields g earlier at [] (t ∷ ts) = ⊥
+MadeFields g earlier at (f ∷ fs) [] = ⊥
+MadeFields g earlier at (f ∷ fs) (t ∷ ts) =
+    Declares g f t.ty × (t.name ≡ f.name) × (t.offset ≡ at) × (has_name earlier f.name ≡ false) × MadeFields g (f.name ∷ earlier) (at + cells_of g t.ty) fs ts
+
+made_fields : (g : Lookup) (earlier : List (List ℕ)) (at : ℕ) (fs : List FieldDef) (ts : List FieldType) → fields g earlier at fs ≡ Ok ts → MadeFields g earlier at fs ts
+made_fields g earlier at [] ts q = subst (λ ts. MadeFields g earlier at [] ts) (fine_back [] ts q) tt
+made_fields g earlier at (f ∷ fs) ts q =
+    let y = parted _ _ ts q in
+    let n = needed f.spot T2 (not (has_name earlier f.name)) _ ts y.2 in
+    let z = parted (fields g (f.name ∷ earlier) (at + cells_of g y.0) fs) _ ts n.1 in
+    subst (λ ts. MadeFields g earlier at (f ∷ fs) ts) (fine_back _ ts z.2)
+    (declares g f y.0 y.1, refl, refl, not-true (has_name earlier f.name) n.0, made_fields g (f.name ∷ earlier) (at + cells_of g y.0) fs z.0 z.1)
+
+fields_typed : (g : Lookup) (structs : List StructType) (sizes : List ℕ) (earlier : List (List ℕ)) (at : ℕ) (fs : List FieldDef) (ts : List FieldType) → g.public ≡ public_structs structs → Known g sizes → Least g (struct_cells g.structs)
+    → MadeFields g earlier at fs ts → are_fields sizes (public_structs structs) (struct_cells g.structs) at ts ≡ true
+fields_typed g structs sizes earlier at [] [] e h l m = refl
+fields_typed g structs sizes earlier at [] (t ∷ ts) e h l m = absurd m
+fields_typed g structs sizes earlier at (f ∷ fs) [] e h l m = absurd m
+fields_typed g structs sizes earlier at (f ∷ fs) (t ∷ ts) e h l m =
+    both (three (field_good g structs sizes f t.ty e h m.0) (both (field_least g f t.ty l m.0) (field_fits g f t.ty m.0)) (subst (λ n. nat_eq n at ≡ true) (sym m.2) (number_itself at)))
+    (fields_typed g structs sizes (f.name ∷ earlier) (at + cells_of g t.ty) fs ts e h l m.4)
+
+fields_differ : (g : Lookup) (earlier : List (List ℕ)) (at : ℕ) (fs : List FieldDef) (ts : List FieldType) → MadeFields g earlier at fs ts → (all (λ y. is_new y (field_names ts)) earlier ≡ true) × (differ (field_names ts) ≡ true)
+fields_differ g earlier at [] [] m = (none_left earlier, refl)
+  where
+    none_left : (ys : List (List ℕ)) → all (λ y. is_new y []) ys ≡ true
+    none_left [] = refl
+    none_left (y ∷ ys) = none_left ys
+fields_differ g earlier at [] (t ∷ ts) m = absurd m
+fields_differ g earlier at (f ∷ fs) [] m = absurd m
+fields_differ g earlier at (f ∷ fs) (t ∷ ts) m =
+    let z = fields_differ g (f.name ∷ earlier) (at + cells_of g t.ty) fs ts m.4 in
+    let mine = first (is_new f.name (field_names ts)) (all (λ y. is_new y (field_names ts)) earlier) z.0 in
+    let theirs = second (is_new f.name (field_names ts)) (all (λ y. is_new y (field_names ts)) earlier) z.0 in
+    (subst (λ x. all (λ y. is_new y (x ∷ field_names ts)) earlier ≡ true) (sym m.1) (new_before earlier f.name (field_names ts) m.3 theirs),
+    both (subst (λ x. is_new x (field_names ts) ≡ true) (sym m.1) mine) z.1)
+
+-- whether there are fields
+abbrev pub has_fields : List FieldDef → Bool
+has_fields [] = false
+has_fields (f ∷ fs) = true
+
+fields_least : (g : Lookup) (earlier : List (List ℕ)) (at : ℕ) (fs : List FieldDef) (ts : List FieldType) → has_fields fs ≡ true → Least g (struct_cells g.structs) → MadeFields g earlier at fs ts → nat_le 1 (field_cells (struct_cells g.structs) ts) ≡ true
+fields_least g earlier at [] ts b l m = never b
+fields_least g earlier at (f ∷ fs) [] b l m = absurd m
+fields_least g earlier at (f ∷ fs) (t ∷ ts) b l m = more (cells (struct_cells g.structs) t.ty) (field_cells (struct_cells g.structs) ts) (field_least g f t.ty l m.0)
+  where
+    more : (a b : ℕ) → nat_le 1 a ≡ true → nat_le 1 (a + b) ≡ true
+    more a b h = grind arith
+
+-- Public data.
+
+mutual
+  normal_holds : (known public : List Bool) (inside : Bool) (t : CType) → holds_public known (normal public inside t) ≡ holds_public known t
+  normal_holds known public inside (Int k o) = refl
+  normal_holds known public inside (Pointer' f u t) = refl
+  normal_holds known public inside (Array' n u t) = normal_row_holds known public inside t
+  normal_holds known public inside (Struct n) = refl
+  normal_holds known public inside Nothing = refl
+
+  normal_row_holds : {m : _} (known public : List Bool) (inside : Bool) (t : Row_of-CType m) → holds_public_row known (normal_row public inside t) ≡ holds_public_row known t
+  normal_row_holds known public inside (more_of-CType t ts) = normal_holds known public inside t
+  normal_row_holds known public inside end_of-CType = refl
+
+arrays_hold : (known : List Bool) (ns : List ℕ) (t : CType) → holds_public known (arrays ns t) ≡ holds_public known t
+unfolding hidden-the_row-CType-0 hidden
+arrays_hold known [] t = refl
+arrays_hold known (n ∷ ns) t = arrays_hold known ns t
+
+pointer_holds : (known : List Bool) (f : Bool) (t : CType) → holds_public known (Pointer f t) ≡ true
+unfolding hidden-the_row-CType-0 hidden
+pointer_holds known f t = refl
+
+starred_holds : (known : List Bool) (f : Bool) (k : ℕ) (t : CType) → holds_public known t ≡ true → holds_public known (starred f k t) ≡ true
+starred_holds known f zero t h = h
+starred_holds known f (suc k) t h = starred_holds known f k (Pointer f t) (pointer_holds known f t)
+
+-- what a type begins with holds public data where the written name says so
+begun_holds : (g : Lookup) (known : List Bool) (v : Bool) (b : BaseName) (u : CType) → base_type g v b ≡ Ok u → holds_public known u ≡ base_public g.names known b.obliv b.kind
+begun_holds g known v b u q = on b.kind q
+  where
+    at : (o : Option ℕ) → struct_named g v b.spot o ≡ Ok u → holds_public known u ≡ slice_index_or known (number_or (length known) o) false
+    at None q = absurd (not_both u _ q)
+    at (Some n) q = sym (ap (λ u. holds_public known u) (fine_back (Struct n) u (needed b.spot T1 (not v || nat_lt n g.above) (Ok (Struct n)) u q).1))
+    on : (k : BaseKind) → base_kind g v b.spot b.obliv k ≡ Ok u → holds_public known u ≡ base_public g.names known b.obliv k
+    on (base.Int k) q = sym (ap (λ u. holds_public known u) (fine_back (Int k b.obliv) u q))
+    on (base.Struct x) q = at (number_from 0 g.names x) q
+
+declared_holds : (g : Lookup) (known : List Bool) (f : FieldDef) (u : CType) → Declares g f u → holds_public known u ≡ field_public g.names known f
+declared_holds g known f u d =
+    ap (λ u. holds_public known u) d.is
+    ∙ normal_holds known g.public false (arrays f.dims (starred f.base.frozen f.stars d.base))
+    ∙ arrays_hold known f.dims (starred f.base.frozen f.stars d.base)
+    ∙ on f.stars
+  where
+    not_zero : (k : ℕ) → nat_eq (suc k) 0 ≡ false
+    not_zero k = grind arith
+    on : (k : ℕ) → holds_public known (starred f.base.frozen k d.base) ≡ (not (nat_eq k 0) || base_public g.names known f.base.obliv f.base.kind)
+    on zero = begun_holds g known (nat_eq f.stars 0) f.base d.base d.found
+    on (suc k) = starred_holds known f.base.frozen k (Pointer f.base.frozen d.base) (pointer_holds known f.base.frozen d.base) ∙ sym (ap (λ z. not z || base_public g.names known f.base.obliv f.base.kind) (not_zero k))
+
+fields_hold : (g : Lookup) (known : List Bool) (earlier : List (List ℕ)) (at : ℕ) (fs : List FieldDef) (ts : List FieldType) → MadeFields g earlier at fs ts → some_public known ts ≡ some_public_field g.names known fs
+fields_hold g known earlier at [] [] m = refl
+fields_hold g known earlier at [] (t ∷ ts) m = absurd m
+fields_hold g known earlier at (f ∷ fs) [] m = absurd m
+fields_hold g known earlier at (f ∷ fs) (t ∷ ts) m =
+    ap (λ b. b || some_public known ts) (declared_holds g known f t.ty m.0)
+    ∙ ap (λ b. field_public g.names known f || b) (fields_hold g known (f.name ∷ earlier) (at + cells_of g t.ty) fs ts m.4)
+
+-- Structs.
+
+-- a struct of a definition, where the earlier ones are known
+pub record MadeStruct (g : Lookup) (d : StructDef) (s : StructType) : Type 0 where
+  pub made : MadeFields g [] 0 d.fields s.fields
+  pub name : s.name ≡ d.name
+  pub cells : s.cells ≡ field_cells (struct_cells g.structs) s.fields
+  pub fresh : has_name (take g.above g.names) d.name ≡ false
+  pub fits : nat_le (field_cells (struct_cells g.structs) s.fields) 65536 ≡ true
+  pub deep : nat_lt (field_depth (depths_after [] g.structs) s.fields) 64 ≡ true
+
+made_struct : (g : Lookup) (d : StructDef) (s : StructType) → struct_type g d ≡ Ok s → MadeStruct g d s
+made_struct g d s q =
+    let y = parted (fields g [] 0 d.fields) _ s q in
+    let n = needed d.spot T2 (not (has_name (take g.above g.names) d.name)) _ s y.2 in
+    let m = needed d.spot T11 (nat_le (field_cells (struct_cells g.structs) y.0) 65536 && nat_lt (field_depth (depths_after [] g.structs) y.0) 64) _ s n.1 in
+    subst (λ s. MadeStruct g d s) (fine_back (record { name = d.name; fields = y.0; cells = field_cells (struct_cells g.structs) y.0 }) s m.1)
+    (record {
+      made = made_fields g [] 0 d.fields y.0 y.1;
+      name = refl;
+      cells = refl;
+      fresh = not-true (has_name (take g.above g.names) d.name) n.0;
+      fits = first (nat_le (field_cells (struct_cells g.structs) y.0) 65536) (nat_lt (field_depth (depths_after [] g.structs) y.0) 64) m.0;
+      deep = second (nat_le (field_cells (struct_cells g.structs) y.0) 65536) (nat_lt (field_depth (depths_after [] g.structs) y.0) 64) m.0;
+    })
+
+-- structs that are judged one after another
+abbrev pub MadeAll : Lookup → List StructDef → List StructType → Type 0
+MadeAll g [] [] = Unit {0}
+MadeAll g [] (s ∷ ss) = ⊥
+MadeAll g (d ∷ ds) [] = ⊥
+MadeAll g (d ∷ ds) (s ∷ ss) = MadeStruct g d s × MadeAll (with_struct g s) ds ss
+
+-- what is known after structs
+abbrev pub with_all : Lookup → List StructType → Lookup
+with_all g [] = g
+with_all g (s ∷ ss) = with_all (with_struct g s) ss
+
+made_all : (g : Lookup) (ds : List StructDef) (h : Lookup) → structs_from g ds ≡ Ok h → (ss : List StructType) × MadeAll g ds ss × (h ≡ with_all g ss)
+made_all g [] h q = ([], tt, sym (fine_back g h q))
+made_all g (d ∷ ds) h q =
+    let z = parted (struct_type g d) _ h q in
+    let r = made_all (with_struct g z.0) ds h z.2 in
+    (z.0 ∷ r.0, (made_struct g d z.0 z.1, r.1), r.2)
+
+all_structs : (g : Lookup) (ss : List StructType) → (with_all g ss).structs ≡ g.structs ++ ss
+all_structs g [] = sym (append-nil g.structs)
+all_structs g (s ∷ ss) = all_structs (with_struct g s) ss ∙ one_on g.structs ss s
+
+all_names : (g : Lookup) (ss : List StructType) → (with_all g ss).names ≡ g.names
+all_names g [] = refl
+all_names g (s ∷ ss) = all_names (with_struct g s) ss
+
+all_public : (g : Lookup) (ss : List StructType) → (with_all g ss).public ≡ g.public
+all_public g [] = refl
+all_public g (s ∷ ss) = all_public (with_struct g s) ss
+
+-- Cells of a struct more.
+
+after_one : (known : List ℕ) (ss : List StructType) (s : StructType) → cells_after known (ss ++ s ∷ []) ≡ cells_after known ss ++ field_cells (cells_after known ss) s.fields ∷ []
+after_one known [] s = refl
+after_one known (r ∷ ss) s = after_one (known ++ field_cells known r.fields ∷ []) ss s
+
+cells_one : (ss : List StructType) (s : StructType) → struct_cells (ss ++ s ∷ []) ≡ struct_cells ss ++ field_cells (struct_cells ss) s.fields ∷ []
+cells_one ss s = after_one [] ss s
+
+depth_one : (known : List ℕ) (ss : List StructType) (s : StructType) → depths_after known (ss ++ s ∷ []) ≡ depths_after known ss ++ suc (field_depth (depths_after known ss) s.fields) ∷ []
+depth_one known [] s = ap (λ n. known ++ n ∷ []) (next_number (field_depth known s.fields))
+  where
+    next_number : (n : ℕ) → n + 1 ≡ suc n
+    next_number n = omega arith
+depth_one known (r ∷ ss) s = depth_one (known ++ (field_depth known r.fields + 1) ∷ []) ss s
+
+after_length : (known : List ℕ) (ss : List StructType) → length (cells_after known ss) ≡ length known + length ss
+after_length known [] = no_more (length known)
+  where
+    no_more : (n : ℕ) → n ≡ n + 0
+    no_more n = omega arith
+after_length known (s ∷ ss) =
+    after_length (known ++ field_cells known s.fields ∷ []) ss
+    ∙ ap (λ n. n + length ss) (length_one known (field_cells known s.fields)) ∙ shifted (length known) (length ss)
+  where
+    shifted : (n m : ℕ) → suc n + m ≡ n + suc m
+    shifted n m = omega arith
+
+cells_length : (ss : List StructType) → length (struct_cells ss) ≡ length ss
+cells_length ss = after_length [] ss ∙ none_more (length ss)
+  where
+    none_more : (n : ℕ) → 0 + n ≡ n
+    none_more n = omega arith
+
+-- the cells of the first structs stand first
+after_goes : (known : List ℕ) (ss : List StructType) → (more : List ℕ) × (cells_after known ss ≡ known ++ more)
+after_goes known [] = ([], sym (append-nil known))
+after_goes known (s ∷ ss) =
+    let z = after_goes (known ++ field_cells known s.fields ∷ []) ss in
+    (field_cells known s.fields ∷ z.0, z.1 ∙ one_on known z.0 (field_cells known s.fields))
+
+after_both : (known : List ℕ) (rs ss : List StructType) → cells_after known (rs ++ ss) ≡ cells_after (cells_after known rs) ss
+after_both known [] ss = refl
+after_both known (r ∷ rs) ss = after_both (known ++ field_cells known r.fields ∷ []) rs ss
+
+index_first : (ms ns : List ℕ) (n : ℕ) → nat_lt n (length ms) ≡ true → slice_index_or (ms ++ ns) n 0 ≡ slice_index_or ms n 0
+index_first [] ns n h = absurd (no_less n h)
+  where
+    no_less : (n : ℕ) → nat_lt n 0 ≡ true → ⊥
+    no_less n e = grind arith
+index_first (m ∷ ms) ns zero h = refl
+index_first (m ∷ ms) ns (suc n) h = index_first ms ns n (less n (length ms) h)
+  where
+    less : (n m : ℕ) → nat_lt (suc n) (suc m) ≡ true → nat_lt n m ≡ true
+    less n m e = grind arith
+
+cells_first : (rs ss : List StructType) (n : ℕ) → nat_lt n (length rs) ≡ true → slice_index_or (struct_cells rs) n 0 ≡ slice_index_or (struct_cells (rs ++ ss)) n 0
+cells_first rs ss n h =
+    let z = after_goes (struct_cells rs) ss in
+    sym (ap (λ l. slice_index_or l n 0) (after_both [] rs ss ∙ z.1) ∙ index_first (struct_cells rs) z.0 n (subst (λ m. nat_lt n m ≡ true) (sym (cells_length rs)) h))
