@@ -274,3 +274,122 @@ cells_first : (rs ss : List StructType) (n : ℕ) → nat_lt n (length rs) ≡ t
 cells_first rs ss n h =
     let z = after_goes (struct_cells rs) ss in
     sym (ap (λ l. slice_index_or l n 0) (after_both [] rs ss ∙ z.1) ∙ index_first (struct_cells rs) z.0 n (subst (λ m. nat_lt n m ≡ true) (sym (cells_length rs)) h))
+
+-- Structs among all.
+
+-- each definition has fields
+abbrev pub AllHaveFields : List StructDef → Type 0
+AllHaveFields [] = Unit {0}
+AllHaveFields (d ∷ ds) = (has_fields d.fields ≡ true) × AllHaveFields ds
+
+least_above : (g : Lookup) → g.above ≡ length g.structs → all is_cells (struct_cells g.structs) ≡ true → Least g (struct_cells g.structs)
+least_above g a h n b e =
+    let c = cells_at (struct_cells g.structs) n h (subst (λ m. nat_lt n m ≡ true) (a ∙ sym (cells_length g.structs)) e) in
+    first (nat_le 1 (slice_index_or (struct_cells g.structs) n 0)) (nat_le (slice_index_or (struct_cells g.structs) n 0) 65536) c
+
+one_above : (g : Lookup) (s : StructType) → g.above ≡ length g.structs → (with_struct g s).above ≡ length (with_struct g s).structs
+one_above g s a = next g.above (length g.structs) a ∙ sym (length_one g.structs s)
+  where
+    next : (n m : ℕ) → n ≡ m → n + 1 ≡ suc m
+    next n m e = omega arith
+
+struct_sized : (g : Lookup) (d : StructDef) (s : StructType) → has_fields d.fields ≡ true → Least g (struct_cells g.structs) → MadeStruct g d s → is_cells (field_cells (struct_cells g.structs) s.fields) ≡ true
+struct_sized g d s b l m = both (fields_least g [] 0 d.fields s.fields b l m.made) m.fits
+
+sized_with : (g : Lookup) (s : StructType) → all is_cells (struct_cells g.structs) ≡ true → is_cells (field_cells (struct_cells g.structs) s.fields) ≡ true → all is_cells (struct_cells (g.structs ++ s ∷ [])) ≡ true
+sized_with g s h i = subst (λ l. all is_cells l ≡ true) (sym (cells_one g.structs s)) (all_one is_cells (struct_cells g.structs) (field_cells (struct_cells g.structs) s.fields) h i)
+
+all_sized : (g : Lookup) (ds : List StructDef) (ss : List StructType) → AllHaveFields ds → g.above ≡ length g.structs → all is_cells (struct_cells g.structs) ≡ true → MadeAll g ds ss → all is_cells (struct_cells (g.structs ++ ss)) ≡ true
+all_sized g [] [] b a h m = subst (λ l. all is_cells (struct_cells l) ≡ true) (sym (append-nil g.structs)) h
+all_sized g [] (s ∷ ss) b a h m = absurd m
+all_sized g (d ∷ ds) [] b a h m = absurd m
+all_sized g (d ∷ ds) (s ∷ ss) b a h m =
+    subst (λ l. all is_cells (struct_cells l) ≡ true) (one_on g.structs ss s)
+    (all_sized (with_struct g s) ds ss b.1 (one_above g s a) (sized_with g s h (struct_sized g d s b.0 (least_above g a h) m.0)) m.1)
+
+-- all structs, their sizes and what they hold
+pub record Among (g : Lookup) (all_of : List StructType) : Type 0 where
+  pub public : g.public ≡ public_structs all_of
+  pub named : length g.names ≡ length (struct_cells all_of)
+  pub sized : all is_cells (struct_cells all_of) ≡ true
+
+known_at : (g : Lookup) (ss : List StructType) → Among g (g.structs ++ ss) → g.above ≡ length g.structs → Known g (struct_cells (g.structs ++ ss))
+known_at g ss w a = record {
+  named = w.named;
+  sized = w.sized;
+  above = λ n b e. cells_first g.structs ss n (subst (λ m. nat_lt n m ≡ true) a e);
+}
+
+less_deep : (n : ℕ) → nat_lt n 64 ≡ true → nat_le n 63 ≡ true
+less_deep n h = grind arith
+
+structs_typed : (g : Lookup) (ds : List StructDef) (ss : List StructType) → AllHaveFields ds → g.above ≡ length g.structs → all is_cells (struct_cells g.structs) ≡ true → Among g (g.structs ++ ss) → MadeAll g ds ss
+    → are_structs (struct_cells (g.structs ++ ss)) (public_structs (g.structs ++ ss)) (struct_cells g.structs) (depths_after [] g.structs) ss ≡ true
+structs_typed g [] [] b a h w m = refl
+structs_typed g [] (s ∷ ss) b a h w m = absurd m
+structs_typed g (d ∷ ds) [] b a h w m = absurd m
+structs_typed g (d ∷ ds) (s ∷ ss) b a h w m =
+    let l = least_above g a h in
+    let i = struct_sized g d s b.0 l m.0 in
+    let mine = fields_typed g (g.structs ++ s ∷ ss) (struct_cells (g.structs ++ s ∷ ss)) [] 0 d.fields s.fields w.public (known_at g (s ∷ ss) w a) l m.0.made in
+    let cells = subst (λ c. is_cells c ≡ true) (sym m.0.cells) i in
+    let r = structs_typed (with_struct g s) ds ss b.1 (one_above g s a) (sized_with g s h i) (subst (λ l. Among (with_struct g s) l) (sym (one_on g.structs ss s)) (record { public = w.public; named = w.named; sized = w.sized })) m.1 in
+    both (both (both (both (both (both
+    (subst (λ c. nat_eq c (field_cells (struct_cells g.structs) s.fields) ≡ true) (sym m.0.cells) (number_itself (field_cells (struct_cells g.structs) s.fields)))
+    (first (nat_le 1 s.cells) (nat_le s.cells 65536) cells)) (second (nat_le 1 s.cells) (nat_le s.cells 65536) cells))
+    (less_deep (field_depth (depths_after [] g.structs) s.fields) m.0.deep)) mine) (fields_differ g [] 0 d.fields s.fields m.0.made).1)
+    (subst (λ k. are_structs (struct_cells (g.structs ++ s ∷ ss)) (public_structs (g.structs ++ s ∷ ss)) k (depths_after [] g.structs ++ suc (field_depth (depths_after [] g.structs) s.fields) ∷ []) ss ≡ true) (cells_one g.structs s)
+    (subst (λ k. are_structs (struct_cells (g.structs ++ s ∷ ss)) (public_structs (g.structs ++ s ∷ ss)) (struct_cells (g.structs ++ s ∷ [])) k ss ≡ true) (depth_one [] g.structs s)
+    (subst (λ l. are_structs (struct_cells l) (public_structs l) (struct_cells (g.structs ++ s ∷ [])) (depths_after [] (g.structs ++ s ∷ [])) ss ≡ true) (one_on g.structs ss s) r)))
+
+-- what is known of the structs' public data before they are judged is so of the judged ones
+all_hold : (g : Lookup) (known : List Bool) (ds : List StructDef) (ss : List StructType) → MadeAll g ds ss → public_from g.names known ds ≡ public_after known ss
+all_hold g known [] [] m = refl
+all_hold g known [] (s ∷ ss) m = absurd m
+all_hold g known (d ∷ ds) [] m = absurd m
+all_hold g known (d ∷ ds) (s ∷ ss) m =
+    ap (λ b. public_from g.names (known ++ b ∷ []) ds) (sym (fields_hold g known [] 0 d.fields s.fields m.0.made))
+    ∙ all_hold (with_struct g s) (known ++ some_public known s.fields ∷ []) ds ss m.1
+
+-- Their names.
+
+names_made : (g : Lookup) (ds : List StructDef) (ss : List StructType) → MadeAll g ds ss → test.struct_names ss ≡ struct_names ds
+names_made g [] [] m = refl
+names_made g [] (s ∷ ss) m = absurd m
+names_made g (d ∷ ds) [] m = absurd m
+names_made g (d ∷ ds) (s ∷ ss) m = ap (λ n. n ∷ test.struct_names ss) m.0.name ∙ ap (λ ns. d.name ∷ ns) (names_made (with_struct g s) ds ss m.1)
+
+names_length : (ss : List StructType) → length (test.struct_names ss) ≡ length ss
+names_length [] = refl
+names_length (s ∷ ss) = ap (λ n. suc n) (names_length ss)
+
+names_one : (ss : List StructType) (s : StructType) → test.struct_names (ss ++ s ∷ []) ≡ test.struct_names ss ++ s.name ∷ []
+names_one [] s = refl
+names_one (r ∷ ss) s = ap (λ l. r.name ∷ l) (names_one ss s)
+
+take_first : {A : Type 0} (xs ys : List A) → take (length xs) (xs ++ ys) ≡ xs
+take_first [] ys = refl
+take_first (x ∷ xs) ys = ap (λ l. x ∷ l) (take_first xs ys)
+
+all_split : {A : Type 0} (f : A → Bool) (xs : List A) (y : A) → all f (xs ++ y ∷ []) ≡ true → (all f xs ≡ true) × (f y ≡ true)
+all_split f [] y h = (refl, first (f y) true h)
+all_split f (x ∷ xs) y h =
+    let z = all_split f xs y (second (f x) (all f (xs ++ y ∷ [])) h) in
+    (both (first (f x) (all f (xs ++ y ∷ [])) h) z.0, z.1)
+
+none_left : (ys : List (List ℕ)) → all (λ y. is_new y []) ys ≡ true
+none_left [] = refl
+none_left (y ∷ ys) = none_left ys
+
+structs_differ : (g : Lookup) (ds : List StructDef) (ss : List StructType) → g.above ≡ length g.structs → g.names ≡ test.struct_names g.structs ++ struct_names ds → MadeAll g ds ss
+    → (all (λ y. is_new y (test.struct_names ss)) (test.struct_names g.structs) ≡ true) × (differ (test.struct_names ss) ≡ true)
+structs_differ g [] [] a e m = (none_left (test.struct_names g.structs), refl)
+structs_differ g [] (s ∷ ss) a e m = absurd m
+structs_differ g (d ∷ ds) [] a e m = absurd m
+structs_differ g (d ∷ ds) (s ∷ ss) a e m =
+    let above = take_first (test.struct_names g.structs) (struct_names (d ∷ ds)) in
+    let old = subst (λ l. has_name l d.name ≡ false) above (subst (λ n. has_name (take n (test.struct_names g.structs ++ struct_names (d ∷ ds))) d.name ≡ false) (a ∙ sym (names_length g.structs)) (subst (λ l. has_name (take g.above l) d.name ≡ false) e m.0.fresh)) in
+    let more = e ∙ sym (ap (λ l. l ++ struct_names ds) (names_one g.structs s) ∙ one_on (test.struct_names g.structs) (struct_names ds) s.name ∙ ap (λ n. test.struct_names g.structs ++ n ∷ struct_names ds) m.0.name) in
+    let r = structs_differ (with_struct g s) ds ss (one_above g s a) more m.1 in
+    let z = all_split (λ y. is_new y (test.struct_names ss)) (test.struct_names g.structs) s.name (subst (λ l. all (λ y. is_new y (test.struct_names ss)) l ≡ true) (names_one g.structs s) r.0) in
+    (subst (λ x. all (λ y. is_new y (x ∷ test.struct_names ss)) (test.struct_names g.structs) ≡ true) (sym m.0.name) (new_before (test.struct_names g.structs) d.name (test.struct_names ss) old z.0), both z.1 r.1)
