@@ -21,7 +21,9 @@ use Rattle.type_rules.specs.declared.judging.TypeRule.TheVariants.{T1, T2, T11}
 use Rattle.type_rules.specs.Judging.{Judged, next, needs}
 use Rattle.type_rules.specs.Lookup.{Lookup, same_name}
 use Rattle.type_rules.specs.Written.{has_name, number_from, number_or, struct_named, base_kind, base_type, base_public, field_public, some_public_field, public_from, struct_names, starred, arrays, cells_of, fields, depths_after, struct_type, with_struct, structs_from}
+use Rattle.type_rules.specs.ProgramRules.{first_lookup}
 use Rattle.type_rules.proofs.Laws.{fine_back, not_both, parted}
+use Rattle.rules_typed.specs.Grammatical.{has_fields, GrammaticalStructs}
 use Rattle.rules_typed.proofs.Bools.{never, both, three, first, second, none_some, some_is, number_itself}
 use Rattle.rules_typed.proofs.Slots.{one_on, length_one, all_on, all_one}
 use Rattle.rules_typed.proofs.WrittenTypes.{needed, is_cells, cells_at, Known, Least, Declares, declares, field_least, field_fits, field_good}
@@ -84,11 +86,6 @@ fields_differ g earlier at (f ∷ fs) (t ∷ ts) m =
     let theirs = second (is_new f.name (field_names ts)) (all (λ y. is_new y (field_names ts)) earlier) z.0 in
     (subst (λ x. all (λ y. is_new y (x ∷ field_names ts)) earlier ≡ true) (sym m.1) (new_before earlier f.name (field_names ts) m.3 theirs),
     both (subst (λ x. is_new x (field_names ts) ≡ true) (sym m.1) mine) z.1)
-
--- whether there are fields
-abbrev pub has_fields : List FieldDef → Bool
-has_fields [] = false
-has_fields (f ∷ fs) = true
 
 fields_least : (g : Lookup) (earlier : List (List ℕ)) (at : ℕ) (fs : List FieldDef) (ts : List FieldType) → has_fields fs ≡ true → Least g (struct_cells g.structs) → MadeFields g earlier at fs ts → nat_le 1 (field_cells (struct_cells g.structs) ts) ≡ true
 fields_least g earlier at [] ts b l m = never b
@@ -277,11 +274,6 @@ cells_first rs ss n h =
 
 -- Structs among all.
 
--- each definition has fields
-abbrev pub AllHaveFields : List StructDef → Type 0
-AllHaveFields [] = Unit {0}
-AllHaveFields (d ∷ ds) = (has_fields d.fields ≡ true) × AllHaveFields ds
-
 least_above : (g : Lookup) → g.above ≡ length g.structs → all is_cells (struct_cells g.structs) ≡ true → Least g (struct_cells g.structs)
 least_above g a h n b e =
     let c = cells_at (struct_cells g.structs) n h (subst (λ m. nat_lt n m ≡ true) (a ∙ sym (cells_length g.structs)) e) in
@@ -299,7 +291,7 @@ struct_sized g d s b l m = both (fields_least g [] 0 d.fields s.fields b l m.mad
 sized_with : (g : Lookup) (s : StructType) → all is_cells (struct_cells g.structs) ≡ true → is_cells (field_cells (struct_cells g.structs) s.fields) ≡ true → all is_cells (struct_cells (g.structs ++ s ∷ [])) ≡ true
 sized_with g s h i = subst (λ l. all is_cells l ≡ true) (sym (cells_one g.structs s)) (all_one is_cells (struct_cells g.structs) (field_cells (struct_cells g.structs) s.fields) h i)
 
-all_sized : (g : Lookup) (ds : List StructDef) (ss : List StructType) → AllHaveFields ds → g.above ≡ length g.structs → all is_cells (struct_cells g.structs) ≡ true → MadeAll g ds ss → all is_cells (struct_cells (g.structs ++ ss)) ≡ true
+all_sized : (g : Lookup) (ds : List StructDef) (ss : List StructType) → GrammaticalStructs ds → g.above ≡ length g.structs → all is_cells (struct_cells g.structs) ≡ true → MadeAll g ds ss → all is_cells (struct_cells (g.structs ++ ss)) ≡ true
 all_sized g [] [] b a h m = subst (λ l. all is_cells (struct_cells l) ≡ true) (sym (append-nil g.structs)) h
 all_sized g [] (s ∷ ss) b a h m = absurd m
 all_sized g (d ∷ ds) [] b a h m = absurd m
@@ -323,7 +315,7 @@ known_at g ss w a = record {
 less_deep : (n : ℕ) → nat_lt n 64 ≡ true → nat_le n 63 ≡ true
 less_deep n h = grind arith
 
-structs_typed : (g : Lookup) (ds : List StructDef) (ss : List StructType) → AllHaveFields ds → g.above ≡ length g.structs → all is_cells (struct_cells g.structs) ≡ true → Among g (g.structs ++ ss) → MadeAll g ds ss
+structs_typed : (g : Lookup) (ds : List StructDef) (ss : List StructType) → GrammaticalStructs ds → g.above ≡ length g.structs → all is_cells (struct_cells g.structs) ≡ true → Among g (g.structs ++ ss) → MadeAll g ds ss
     → are_structs (struct_cells (g.structs ++ ss)) (public_structs (g.structs ++ ss)) (struct_cells g.structs) (depths_after [] g.structs) ss ≡ true
 structs_typed g [] [] b a h w m = refl
 structs_typed g [] (s ∷ ss) b a h w m = absurd m
@@ -393,3 +385,39 @@ structs_differ g (d ∷ ds) (s ∷ ss) a e m =
     let r = structs_differ (with_struct g s) ds ss (one_above g s a) more m.1 in
     let z = all_split (λ y. is_new y (test.struct_names ss)) (test.struct_names g.structs) s.name (subst (λ l. all (λ y. is_new y (test.struct_names ss)) l ≡ true) (names_one g.structs s) r.0) in
     (subst (λ x. all (λ y. is_new y (x ∷ test.struct_names ss)) (test.struct_names g.structs) ≡ true) (sym m.0.name) (new_before (test.struct_names g.structs) d.name (test.struct_names ss) old z.0), both z.1 r.1)
+
+-- What is known after all structs.
+
+-- the structs of a program, all judged
+pub record Structured (ds : List StructDef) (g : Lookup) : Type 0 where
+  pub among : Among g g.structs
+  pub names : g.names ≡ struct_names ds
+  pub typed : are_structs (struct_cells g.structs) (public_structs g.structs) [] [] g.structs ≡ true
+  pub differ : differ (test.struct_names g.structs) ≡ true
+
+names_list : (ds : List StructDef) (ss : List StructType) → test.struct_names ss ≡ struct_names ds → length (struct_names ds) ≡ length (struct_cells ss)
+names_list ds ss e = sym (ap (λ l. length l) e) ∙ names_length ss ∙ sym (cells_length ss)
+
+pub structured : (ds : List StructDef) (g : Lookup) → GrammaticalStructs ds → structs_from (first_lookup ds) ds ≡ Ok g → Structured ds g
+structured ds g b q =
+    let z = made_all (first_lookup ds) ds g q in
+    subst (λ g. Structured ds g) (sym z.2) (after z.0 z.1 (all_structs (first_lookup ds) z.0))
+  where
+    after : (ss : List StructType) → MadeAll (first_lookup ds) ds ss → (with_all (first_lookup ds) ss).structs ≡ ss → Structured ds (with_all (first_lookup ds) ss)
+    after ss m e =
+        let first_among : Among (first_lookup ds) ss = record {
+          public = all_hold (first_lookup ds) [] ds ss m;
+          named = names_list ds ss (names_made (first_lookup ds) ds ss m);
+          sized = all_sized (first_lookup ds) ds ss b refl refl m;
+        } in
+        let there = structs_typed (first_lookup ds) ds ss b refl refl first_among m in
+        record {
+          among = subst (λ l. Among (with_all (first_lookup ds) ss) l) (sym e) (record {
+            public = all_public (first_lookup ds) ss ∙ first_among.public;
+            named = ap (λ l. length l) (all_names (first_lookup ds) ss) ∙ first_among.named;
+            sized = first_among.sized;
+          });
+          names = all_names (first_lookup ds) ss;
+          typed = subst (λ l. are_structs (struct_cells l) (public_structs l) [] [] l ≡ true) (sym e) there;
+          differ = subst (λ l. differ (test.struct_names l) ≡ true) (sym e) (structs_differ (first_lookup ds) ds ss refl refl m).1;
+        }

@@ -1,10 +1,15 @@
 -- What the grammar keeps of a parsed tree beyond its types: only an operator that computes stands in a compound assignment, a part of a
--- statement is no declaration, and what a `~obliv` has is a block.
+-- statement is no declaration, what a `~obliv` has is a block, and a struct has fields.
 use Rattle.std.specs.Prelude.{◌≡◌, List, [], ◌∷◌, Option, Some, None, Bool, true, false}
 use Rattle.oc_values.specs.declared.integers.BinaryOp.{BinaryOp}
 use Rattle.oc_source.specs.declared.parsed.Expr.{Expr}
 use Rattle.oc_source.specs.declared.parsed.ExprNode.{ExprNode, Unary', Bump', Binary', Logic', Choose', Assign', Index', Field', Arrow', Call', Cast', Row_of-Expr, end_of-Expr, more_of-Expr}
 use Rattle.oc_source.specs.declared.parsed.Declared.{Declared}
+use Rattle.oc_source.specs.declared.parsed.FieldDef.{FieldDef}
+use Rattle.oc_source.specs.declared.parsed.StructDef.{StructDef}
+use Rattle.oc_source.specs.declared.parsed.Function.{Function}
+use Rattle.oc_source.specs.declared.parsed.Program.{Program}
+use Rattle.oc_source.specs.declared.parsed.Stmt.{Stmt}
 use Rattle.oc_source.specs.declared.parsed.StmtNode.{StmtNode, Declare, Express, Block', If', OblivIf', Always', While', For', Return, Row_of-Stmt, end_of-Stmt, more_of-Stmt, Held-StmtNode-If-2, None', Some'}
 use Rattle.oc_source.specs.declared.parsed.ForInit.{ForInit}
 use Rattle.oc_source.specs.declared.parsed.ForInit.TheVariants as begin
@@ -89,3 +94,33 @@ abbrev mutual
   pub GrammaticalOther : Held-StmtNode-If-2 → Type 0
   GrammaticalOther None' = Unit {0}
   GrammaticalOther (Some' _ y) = GrammaticalPart y
+
+-- statements one after another
+abbrev pub GrammaticalStmts : List Stmt → Type 0
+GrammaticalStmts [] = Unit {0}
+GrammaticalStmts (s ∷ ss) = GrammaticalStmt s.node × GrammaticalStmts ss
+
+-- the statements of a body, which is missing in a prototype
+abbrev pub GrammaticalBody : Option (List Stmt) → Type 0
+GrammaticalBody None = Unit {0}
+GrammaticalBody (Some ss) = GrammaticalStmts ss
+
+-- functions whose bodies are grammatical
+abbrev pub GrammaticalFunctions : List Function → Type 0
+GrammaticalFunctions [] = Unit {0}
+GrammaticalFunctions (f ∷ fs) = GrammaticalBody f.body × GrammaticalFunctions fs
+
+-- whether there are fields
+abbrev pub has_fields : List FieldDef → Bool
+has_fields [] = false
+has_fields (f ∷ fs) = true
+
+-- structs each of which has fields
+abbrev pub GrammaticalStructs : List StructDef → Type 0
+GrammaticalStructs [] = Unit {0}
+GrammaticalStructs (d ∷ ds) = (has_fields d.fields ≡ true) × GrammaticalStructs ds
+
+-- a program of such structs and functions
+pub record GrammaticalProgram (p : Program) : Type 0 where
+  pub structs : GrammaticalStructs p.structs
+  pub functions : GrammaticalFunctions p.functions
