@@ -6,7 +6,7 @@ use Rattle.oc_cells.specs.declared.types.CType.TheViews.{Pointer, Array}
 use Rattle.oc_cells.specs.declared.types.CType.TheBlock.{hidden-the_row-CType-0}
 use denote.Hole.Carrier.{hidden}
 use Rattle.oc_cells.specs.declared.types.StructType.{StructType}
-use Rattle.oc_cells.specs.Types.{normal, normal_row, is_normal, public_structs}
+use Rattle.oc_cells.specs.Types.{is_struct, normal, normal_row, is_normal, public_structs}
 use Rattle.oc_cells.specs.Layout.{cells, cells_row, struct_cells}
 use Rattle.oc_cells.proofs.Normal.{normal_forms}
 use Rattle.oc_source.specs.declared.spot.Spot.{Spot}
@@ -15,7 +15,7 @@ use Rattle.oc_source.specs.declared.parsed.BaseKind.{BaseKind}
 use Rattle.oc_source.specs.declared.parsed.BaseKind.TheVariants as base
 use Rattle.oc_source.specs.declared.parsed.TypeName.{TypeName}
 use Rattle.oc_source.specs.declared.parsed.FieldDef.{FieldDef}
-use Rattle.oc_typing.specs.Rules.{all, is_sized, is_whole, is_whole_row, is_type}
+use Rattle.oc_typing.specs.Rules.{all, is_sized, is_whole, is_whole_row, is_type, is_leaf}
 use Rattle.oc_typing.specs.Typed.{is_starred, is_starred_row, is_slot}
 use Rattle.type_rules.specs.declared.judging.TypeRule.{TypeRule}
 use Rattle.type_rules.specs.declared.judging.TypeRule.TheVariants.{T1, T11}
@@ -52,7 +52,7 @@ pub data Begins (g : Lookup) (by_value : Bool) : CType → Type 0 where
 none_more : (n : ℕ) → 0 + n ≡ n
 none_more n = omega arith
 
-begins : (g : Lookup) (by_value : Bool) (b : BaseName) (u : CType) → base_type g by_value b ≡ Ok u → Begins g by_value u
+pub begins : (g : Lookup) (by_value : Bool) (b : BaseName) (u : CType) → base_type g by_value b ≡ Ok u → Begins g by_value u
 begins g by_value b u q = on b.kind q
   where
     at : (o : Option ℕ) → ((n : ℕ) → o ≡ Some n → nat_lt n (length g.names) ≡ true) → struct_named g by_value b.spot o ≡ Ok u → Begins g by_value u
@@ -214,13 +214,56 @@ begun_cells g sizes f (suc k) u h b = starred_cells (struct_cells g.structs) f k
 normal_type : (structs : List StructType) (sizes : List ℕ) (t : CType) → is_whole sizes t ≡ true → is_type sizes (public_structs structs) (normal (public_structs structs) false t) ≡ true
 normal_type structs sizes t h = both ((normal_forms structs t).is_reached false) (normal_whole sizes (public_structs structs) false t ∙ h)
 
-pub name_good : (g : Lookup) (structs : List StructType) (sizes : List ℕ) (w : TypeName) (u : CType) → g.public ≡ public_structs structs → Known g sizes → type_name g w ≡ Ok u → is_type sizes (public_structs structs) u ≡ true
-name_good g structs sizes w u e h q =
+-- what a written type without a name is: pointers to what it begins with
+pub record Written (g : Lookup) (frozen : Bool) (stars : ℕ) (u : CType) : Type 0 where
+  pub base : CType
+  pub begins : Begins g (nat_eq stars 0) base
+  pub is : u ≡ normal g.public false (starred frozen stars base)
+
+pub written : (g : Lookup) (w : TypeName) (u : CType) → type_name g w ≡ Ok u → Written g w.base.frozen w.stars u
+written g w u q =
     let z = parted (base_type g (nat_eq w.stars 0) w.base) (λ b. Ok (normal g.public false (starred w.base.frozen w.stars b))) u q in
-    let t = starred w.base.frozen w.stars z.0 in
-    let whole = starred_whole sizes w.base.frozen w.stars z.0 (begun_whole g sizes (nat_eq w.stars 0) z.0 h (begins g (nat_eq w.stars 0) w.base z.0 z.1)) in
-    subst (λ u. is_type sizes (public_structs structs) u ≡ true) (fine_back _ u z.2)
-    (subst (λ p. is_type sizes (public_structs structs) (normal p false t) ≡ true) (sym e) (normal_type structs sizes t whole))
+    record { base = z.0; begins = begins g (nat_eq w.stars 0) w.base z.0 z.1; is = sym (fine_back _ u z.2) }
+
+pub written_good : (g : Lookup) (structs : List StructType) (sizes : List ℕ) (f : Bool) (k : ℕ) (u : CType) → g.public ≡ public_structs structs → Known g sizes → Written g f k u → is_type sizes (public_structs structs) u ≡ true
+written_good g structs sizes f k u e h w =
+    subst (λ u. is_type sizes (public_structs structs) u ≡ true) (sym w.is)
+    (subst (λ p. is_type sizes (public_structs structs) (normal p false (starred f k w.base)) ≡ true) (sym e)
+    (normal_type structs sizes (starred f k w.base) (starred_whole sizes f k w.base (begun_whole g sizes (nat_eq k 0) w.base h w.begins))))
+
+-- no struct, it is what a cell has
+normal_leaf : (public : List Bool) (inside : Bool) (t : CType) → is_leaf (normal public inside t) ≡ is_leaf t
+normal_leaf public inside (Int k o) = refl
+normal_leaf public inside (Pointer' f u t) = refl
+normal_leaf public inside (Array' n u t) = refl
+normal_leaf public inside (Struct n) = refl
+normal_leaf public inside Nothing = refl
+
+pub struct_of_normal : (public : List Bool) (inside : Bool) (t : CType) → is_struct (normal public inside t) ≡ is_struct t
+struct_of_normal public inside (Int k o) = refl
+struct_of_normal public inside (Pointer' f u t) = refl
+struct_of_normal public inside (Array' n u t) = refl
+struct_of_normal public inside (Struct n) = refl
+struct_of_normal public inside Nothing = refl
+
+pointer_leaf : (f : Bool) (t : CType) → is_leaf (Pointer f t) ≡ true
+unfolding hidden-the_row-CType-0 hidden
+pointer_leaf f t = refl
+
+starred_leaf : (f : Bool) (k : ℕ) (t : CType) → is_leaf t ≡ true → is_leaf (starred f k t) ≡ true
+starred_leaf f zero t h = h
+starred_leaf f (suc k) t h = starred_leaf f k (Pointer f t) (pointer_leaf f t)
+
+begun_leaf : (g : Lookup) (f : Bool) (k : ℕ) (u : CType) → Begins g (nat_eq k 0) u → not (is_struct (starred f k u)) ≡ true → is_leaf (starred f k u) ≡ true
+begun_leaf g f zero _ integer h = refl
+begun_leaf g f zero _ (a_struct b a) h = never h
+begun_leaf g f (suc k) u b h = starred_leaf f k (Pointer f u) (pointer_leaf f u)
+
+pub written_leaf : (g : Lookup) (f : Bool) (k : ℕ) (u : CType) → Written g f k u → not (is_struct u) ≡ true → is_leaf u ≡ true
+written_leaf g f k u w h =
+    subst (λ u. is_leaf u ≡ true) (sym w.is)
+    (normal_leaf g.public false (starred f k w.base) ∙ begun_leaf g f k w.base w.begins
+    (subst (λ b. not b ≡ true) (struct_of_normal g.public false (starred f k w.base)) (subst (λ u. not (is_struct u) ≡ true) w.is h)))
 
 -- what a declarator is: arrays of pointers to what it begins with
 pub record Declares (g : Lookup) (f : FieldDef) (u : CType) : Type 0 where
@@ -292,3 +335,11 @@ slot_good g structs sizes f u e h d =
     both (field_good g structs sizes f u e h d)
     (subst (λ u. not (is_frozen_place f.base f.stars && is_starred u) ≡ true) (sym d.is)
     (subst (λ s. not (is_frozen_place f.base f.stars && s) ≡ true) (sym (normal_starred g.public false (arrays f.dims t) ∙ arrays_starred f.dims t)) (not_marked g f.base f.stars d.base d.begins)))
+
+-- a written type may be a slot, frozen where its name says so
+pub written_slot : (g : Lookup) (structs : List StructType) (sizes : List ℕ) (b : BaseName) (k : ℕ) (u : CType) → g.public ≡ public_structs structs → Known g sizes → Written g b.frozen k u
+    → is_slot sizes (public_structs structs) (record { ty = u; frozen = is_frozen_place b k }) ≡ true
+written_slot g structs sizes b k u e h w =
+    both (written_good g structs sizes b.frozen k u e h w)
+    (subst (λ u. not (is_frozen_place b k && is_starred u) ≡ true) (sym w.is)
+    (subst (λ s. not (is_frozen_place b k && s) ≡ true) (sym (normal_starred g.public false (starred b.frozen k w.base))) (not_marked g b k w.base w.begins)))
