@@ -359,7 +359,7 @@ names_one : (ss : List StructType) (s : StructType) → test.struct_names (ss ++
 names_one [] s = refl
 names_one (r ∷ ss) s = ap (λ l. r.name ∷ l) (names_one ss s)
 
-take_first : {A : Type 0} (xs ys : List A) → take (length xs) (xs ++ ys) ≡ xs
+pub take_first : {A : Type 0} (xs ys : List A) → take (length xs) (xs ++ ys) ≡ xs
 take_first [] ys = refl
 take_first (x ∷ xs) ys = ap (λ l. x ∷ l) (take_first xs ys)
 
