@@ -133,7 +133,7 @@ called_named r x m h q = on (find r.seen x) q
 
 -- Their bodies.
 
-params_slots : (ps : List Param) (ss : List SlotType) (z : Scope) → length ss ≡ length ps → (with_params ps ss z).slots ≡ z.slots ++ ss
+pub params_slots : (ps : List Param) (ss : List SlotType) (z : Scope) → length ss ≡ length ps → (with_params ps ss z).slots ≡ z.slots ++ ss
 params_slots [] [] z q = sym (append-nil z.slots)
 params_slots [] (s ∷ ss) z q = absurd (no_list (length ss) q)
   where
@@ -159,7 +159,7 @@ pub record MadeFunction (r : Lookup) (f : Function) (h : Heading) (ss : List Stm
   pub is : t ≡ record { name = f.name; result = h.result; params = length h.params; slots = rest.1.slots; obliv = f.obliv; body = rest.0 }
   pub grows : Goes h.params t.slots
 
-made_function : (r : Lookup) (f : Function) (h : Heading) (ss : List Stmt) (t : TypedFunction) → length h.params ≡ length f.params → body r f h ss ≡ Ok t → MadeFunction r f h ss t
+pub made_function : (r : Lookup) (f : Function) (h : Heading) (ss : List Stmt) (t : TypedFunction) → length h.params ≡ length f.params → body r f h ss ≡ Ok t → MadeFunction r f h ss t
 made_function r f h ss t c q =
     let z = parted (statements r ss (started f h)) _ t q in
     let g = subst (λ m. IfOk m (λ q. Goes (started f h).slots q.1.slots)) z.1 (grows_statements r ss (started f h)) in

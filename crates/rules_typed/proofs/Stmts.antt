@@ -56,10 +56,10 @@ slots_after None = []
 slots_after (Some x) = typed.slots_in x.node
 
 module _ (r : Lookup) (g : Context) (around : AgreesApart r g) where
-  abbrev among : List SlotType → Context
+  abbrev pub among : List SlotType → Context
   among f = record g { slots = f }
 
-  abbrev Sees : List ℕ → List Seen → List SlotType → Type 0
+  abbrev pub Sees : List ℕ → List Seen → List SlotType → Type 0
   Sees vis ss f = SeesAll g vis ss f
 
   fits : (ss : List Seen) (f : List SlotType) (vis : List ℕ) → Sees vis ss f → Agrees (record r { seen = ss }) (among f) vis
@@ -157,7 +157,7 @@ module _ (r : Lookup) (g : Context) (around : AgreesApart r g) where
   has_itself : (u : CType) (frozen : Bool) (o : Option SlotType) → o ≡ Some (record { ty = u; frozen = frozen }) → has_type u o ≡ true
   has_itself u frozen o q = subst (λ o. has_type u o ≡ true) (sym q) (itself u)
 
-  sees_more : (z : Scope) (f : List SlotType) (vis : List ℕ) (x : List ℕ) (u : CType) (frozen : Bool) → is_type g.sizes g.public u ≡ true → Goes (add x u frozen z).slots f → Sees vis z.seen f → Sees (length z.slots ∷ vis) (add x u frozen z).seen f
+  pub sees_more : (z : Scope) (f : List SlotType) (vis : List ℕ) (x : List ℕ) (u : CType) (frozen : Bool) → is_type g.sizes g.public u ≡ true → Goes (add x u frozen z).slots f → Sees vis z.seen f → Sees (length z.slots ∷ vis) (add x u frozen z).seen f
   sees_more z f vis x u frozen k e h = λ y w q.
       find_add (GoodVariable (among f) (length z.slots ∷ vis) w) z.seen (record { name = x; level = z.level; slot = length z.slots; ty = u }) y w q
       (λ p. subst (λ w. GoodVariable (among f) (length z.slots ∷ vis) w) (sym p) (record { visible = either _ _ (number_itself (length z.slots)); slot = has_itself u frozen _ (there z.slots f (record { ty = u; frozen = frozen }) e); ty = k }))
@@ -267,7 +267,7 @@ module _ (r : Lookup) (g : Context) (around : AgreesApart r g) where
     pub test : (f : List SlotType) (vis : List ℕ) → Goes t.slots f → Sees vis z.seen f → other_test f loop vis o
     pub sees : (f : List SlotType) (vis : List ℕ) → Goes t.slots f → Sees vis z.seen f → Sees vis t.seen f
 
-  abbrev rows_test : List SlotType → Bool → List ℕ → List made_stmt.TStmt → Bool
+  abbrev pub rows_test : List SlotType → Bool → List ℕ → List made_stmt.TStmt → Bool
   rows_test f loop vis [] = true
   rows_test f loop vis (x ∷ xs) = typed.stmt (among f) loop vis x.node && rows_test f loop (visible.after_node vis x.node) xs
 
@@ -469,10 +469,10 @@ module _ (r : Lookup) (g : Context) (around : AgreesApart r g) where
   part_of d loop z (Ok x) q h = as_part d loop z x.0 x.1 q h
   part_of d loop z (Err b) q h = tt
 
-  rows_none : (loop : Bool) (z : Scope) → DoneRows loop z [] z
+  pub rows_none : (loop : Bool) (z : Scope) → DoneRows loop z [] z
   rows_none loop z = record { adds = adds_none g z.slots; test = λ f vis e i. refl }
 
-  rows_more : (d loop : Bool) (z : Scope) (m : Walk made_stmt.TStmt) (rest : Walk (List made_stmt.TStmt)) → IfOk (m z) (λ q. Done d loop z q.0 q.1) → ((t : Scope) → IfOk (rest t) (λ q. DoneRows loop t q.0 q.1)) → IfOk (bind m (λ x. bind rest (λ xs. pure (x ∷ xs))) z) (λ q. DoneRows loop z q.0 q.1)
+  pub rows_more : (d loop : Bool) (z : Scope) (m : Walk made_stmt.TStmt) (rest : Walk (List made_stmt.TStmt)) → IfOk (m z) (λ q. Done d loop z q.0 q.1) → ((t : Scope) → IfOk (rest t) (λ q. DoneRows loop t q.0 q.1)) → IfOk (bind m (λ x. bind rest (λ xs. pure (x ∷ xs))) z) (λ q. DoneRows loop z q.0 q.1)
   rows_more d loop z m rest h f =
       with_part (λ q. Done d loop z q.0 q.1) (λ q. DoneRows loop z q.0 q.1) m (λ x. bind rest (λ xs. pure (x ∷ xs))) z h (λ x t a.
       with_part (λ q. DoneRows loop t q.0 q.1) (λ q. DoneRows loop z q.0 q.1) rest (λ xs. pure (x ∷ xs)) t (f t) (λ xs w b. record {
