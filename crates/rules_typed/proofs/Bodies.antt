@@ -1,7 +1,7 @@
 -- A function that the rules find passes the test.
-use Rattle.std.proofs.Common.{ℕ, zero, suc, ◌+◌, ◌≡◌, List, [], ◌∷◌, ◌++◌, length, take, map, Option, Some, None, Ok, Err, refl, sym, ap, ◌∙◌, subst, Bool, true, false, nat_eq, arith, append_assoc, append-nil}
+use Rattle.std.proofs.Common.{ℕ, zero, suc, ◌≡◌, List, [], ◌∷◌, ◌++◌, length, take, Option, Some, None, Ok, refl, sym, ap, ◌∙◌, subst, Bool, true, false, arith, append_assoc, append-nil}
 use Rattle.std.specs.Prelude.{◌&&◌, ◌||◌, not, nat_le, slice_get, if◌then◌else◌, is_some, IfOk}
-use Rattle.oc_cells.specs.declared.types.CType.{CType, Nothing}
+use Rattle.oc_cells.specs.declared.types.CType.{CType}
 use Rattle.oc_cells.specs.declared.types.SlotType.{SlotType}
 use Rattle.oc_cells.specs.declared.types.StructType.{StructType}
 use Rattle.oc_cells.specs.Types.{same, public_structs}
@@ -17,25 +17,22 @@ use Rattle.oc_typing.specs.Rules.{all, is_type, is_nothing, is_null, is_leaf, sa
 use Rattle.oc_typing.specs.Typed.{Context, context, is_slot, is_starred, is_result, slot_types, param_types, call, count_up, slots_in_all, is_of_node}
 use Rattle.oc_typing.specs.Typed as typed
 use Rattle.type_rules.specs.declared.judging.Heading.{Heading}
-use Rattle.type_rules.specs.declared.judging.Seen.{Seen}
-use Rattle.type_rules.specs.Judging.{Judged, next}
-use Rattle.type_rules.specs.Lookup.{Lookup, find}
-use Rattle.type_rules.specs.Calls.{called, Known, types_of}
-use Rattle.type_rules.specs.Calls as calls
-use Rattle.type_rules.specs.Written.{bodies_of, at_function, count_before}
-use Rattle.type_rules.specs.StatementRules.{Scope, Walk, bind, pure, add, stmt}
+use Rattle.type_rules.specs.Judging.{next}
+use Rattle.type_rules.specs.Lookup.{Lookup}
+use Rattle.type_rules.specs.Calls.{types_of}
+use Rattle.type_rules.specs.Written.{bodies_of, at_function}
+use Rattle.type_rules.specs.StatementRules.{Scope, add, stmt}
 use Rattle.type_rules.specs.ProgramRules.{statements, with_params, body, function, functions_from}
 use Rattle.type_rules.proofs.Laws.{fine_back, parted}
 use Rattle.rules_typed.specs.Grammatical.{is_declaration, GrammaticalStmts, GrammaticalBody, GrammaticalFunctions}
 use Rattle.rules_typed.specs.Agreeing.{Goes, GoodFunction, AgreesApart, SeesAll}
-use Rattle.rules_typed.proofs.Bools.{never, both, first, second, last, either, none_some, some_is, number_itself}
+use Rattle.rules_typed.proofs.Bools.{never, both, first, second, last, none_some, some_is, number_itself}
 use Rattle.rules_typed.proofs.Types.{itself}
 use Rattle.rules_typed.proofs.Slots.{one_on, length_one}
 use Rattle.rules_typed.proofs.Stmts.{DoneRows, rows_none, rows_more, rows_test, sees_more, stmt_done}
-use Rattle.rules_typed.proofs.WrittenTypes as w
-use Rattle.rules_typed.proofs.Structs.{take_first, Structured}
-use Rattle.rules_typed.proofs.Headings.{MadeParams, MadeHeading, MadeHeadings}
-use Rattle.rules_typed.proofs.Found.{fields_good, called_named, params_slots, started, MadeFunction, made_function}
+use Rattle.rules_typed.proofs.Structs.{take_first}
+use Rattle.rules_typed.proofs.Headings.{MadeHeading, MadeHeadings}
+use Rattle.rules_typed.proofs.Found.{params_slots, started, MadeFunction, made_function}
 
 -- the functions with a body, each with its heading
 pub data Built (g : Lookup) (ds : List StructDef) (sizes : List ℕ) (structs : List StructType) : List Heading → List TypedFunction → Type 0 where
@@ -96,7 +93,7 @@ pub record HasHeading (sizes : List ℕ) (public : List Bool) (h : Heading) (t :
   pub typed : all (λ u. is_type sizes public u) (types_of h.params) ≡ true
   pub gives : is_result sizes public h.result ≡ true
 
-has_heading : (sizes : List ℕ) (structs : List StructType) (r : Lookup) (f : Function) (h : Heading) (ss : List Stmt) (t : TypedFunction) → MadeHeading sizes structs f h → MadeFunction r f h ss t → HasHeading sizes (public_structs structs) h t
+pub has_heading : (sizes : List ℕ) (structs : List StructType) (r : Lookup) (f : Function) (h : Heading) (ss : List Stmt) (t : TypedFunction) → MadeHeading sizes structs f h → MadeFunction r f h ss t → HasHeading sizes (public_structs structs) h t
 has_heading sizes structs r f h ss t m n = record {
   name = ap (λ t. t.name) n.is ∙ sym m.name;
   obliv = ap (λ t. t.obliv) n.is ∙ sym m.obliv;
@@ -125,7 +122,7 @@ result_of_node g u h = on (is_nothing u) (is_null u) (is_leaf u) (is_type g.size
     on false b true false h = never h
     on false b false d h = never h
 
-good_function : (g : Context) (n : ℕ) (h : Heading) (t : TypedFunction) → slice_get g.functions n ≡ Some t → HasHeading g.sizes g.public h t → GoodFunction g n h
+pub good_function : (g : Context) (n : ℕ) (h : Heading) (t : TypedFunction) → slice_get g.functions n ≡ Some t → HasHeading g.sizes g.public h t → GoodFunction g n h
 good_function g n h t e k = record {
   params = k.typed;
   result = result_of_node g h.result k.gives;

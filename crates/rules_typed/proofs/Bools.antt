@@ -2,8 +2,6 @@
 use Rattle.std.proofs.Common.{ℕ, ◌≡◌, Some, None, refl, sym, subst, Bool, true, false, nat_eq, arith}
 use Rattle.std.specs.Prelude.{◌&&◌, ◌||◌, not, nat_le}
 use Rattle.std.proofs.lemmas.Bool.{false≢true}
-use Rattle.type_rules.specs.Lookup.{is}
-use Rattle.type_rules.specs.Rules.{one}
 
 pub never : {P : Type 0} → false ≡ true → P
 never e = absurd (false≢true e)

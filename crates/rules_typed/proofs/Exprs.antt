@@ -8,7 +8,6 @@ use Rattle.oc_cells.specs.declared.types.CType.{CType, Int, Pointer', Array', St
 use Rattle.oc_cells.specs.Types.{target, is_struct}
 use Rattle.oc_source.specs.declared.spot.Spot.{Spot}
 use Rattle.oc_typed.specs.declared.typed.TExpr.{TExpr}
-use Rattle.oc_typed.specs.declared.typed.TPlace.{TPlace}
 use Rattle.oc_typed.specs.declared.typed.TExprNode.TheBlock.{hidden-the_row-TExpr-0, hidden-the_row-TExpr-1, hidden-the_row-TPlace-2}
 use Rattle.oc_cells.specs.declared.types.CType.TheBlock.{hidden-the_row-CType-0}
 use denote.Hole.Carrier.{hidden}
@@ -51,7 +50,7 @@ use Rattle.rules_typed.proofs.Types.{public_test}
 use Rattle.rules_typed.proofs.Nodes.{assigned_good, bump_good, cast_good, choice_good, converted_good, deny_good, deref_node, field_good, flip_test, follow_good, if_needs, index_good, logic_good, minus_test, negate_good, node_of, number_good, of_type, operate_good, plus_test, refer_good, target_type, updated_good, value_good, variable_good}
 use Rattle.rules_typed.proofs.Arguments.{AllAlone, Matched, all_alone, exprs_row, length_types, matched_types, types_in, types_row}
 use Rattle.rules_typed.proofs.Prints.{GivesPrinted, after_any, if_printed, print_good, printed_as, printed_more}
-use Rattle.rules_typed.proofs.OwnCalls.{Told1, exact_none, Exact, IsFed, Told, bytes_of, called_shown, either_same, extra_good, more_good, none_given, only_count, own_called_good, party, private_given, private_many, private_of, shown, size_of, times, value_given}
+use Rattle.rules_typed.proofs.OwnCalls.{Told1, exact_none, Exact, IsFed, Told, bytes_of, called_shown, either_same, extra_good, more_good, none_given, only_count, own_called_good, private_given, private_many, private_of, shown, size_of, times, value_given}
 
 module _ (r : Lookup) (g : Context) (vis : List ℕ) (fits : Agrees r g vis) where
   -- what is judged to have a value

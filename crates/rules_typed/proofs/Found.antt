@@ -1,40 +1,34 @@
 -- Fields and functions that the rules look up are those of the typed tree.
-use Rattle.std.proofs.Common.{ℕ, zero, suc, ◌+◌, ◌≡◌, List, [], ◌∷◌, ◌++◌, length, take, map, Option, Some, None, Ok, Err, refl, sym, ap, ◌∙◌, subst, Bool, true, false, nat_eq, arith, append-nil}
-use Rattle.std.specs.Prelude.{◌&&◌, ◌||◌, not, nat_le, slice_get, if◌then◌else◌, is_some, IfOk}
+use Rattle.std.proofs.Common.{ℕ, zero, suc, ◌+◌, ◌≡◌, List, [], ◌∷◌, ◌++◌, length, Option, Some, None, Ok, sym, ap, ◌∙◌, subst, Bool, true, false, nat_eq, arith, append-nil}
+use Rattle.std.specs.Prelude.{◌&&◌, nat_le, slice_get, if◌then◌else◌, IfOk}
 use Rattle.oc_cells.specs.declared.types.CType.{CType, Int, Pointer', Array', Struct, Nothing}
 use Rattle.oc_cells.specs.declared.types.FieldType.{FieldType}
 use Rattle.oc_cells.specs.declared.types.SlotType.{SlotType}
 use Rattle.oc_cells.specs.declared.types.StructType.{StructType}
-use Rattle.oc_cells.specs.Types.{same, public_structs}
+use Rattle.oc_cells.specs.Types.{same}
 use Rattle.oc_source.specs.declared.parsed.Stmt.{Stmt}
-use Rattle.oc_source.specs.declared.parsed.StructDef.{StructDef}
 use Rattle.oc_source.specs.declared.parsed.Param.{Param}
 use Rattle.oc_source.specs.declared.parsed.Function.{Function}
 use Rattle.oc_typed.specs.declared.typed.TStmt.{TStmt}
 use Rattle.oc_typed.specs.declared.typed.TypedFunction.{TypedFunction}
-use Rattle.oc_typing.specs.Rules.{all, is_type, is_sized, is_nothing, is_leaf, is_null, same_all, has_field, has_field_of, are_fields, is_struct_type, are_structs, field_depth, differ, field_names, field}
-use Rattle.oc_typing.specs.Typed.{Context, is_slot, is_result, is_starred, slot_types, param_types, call, is_of_node}
+use Rattle.oc_typing.specs.Rules.{is_type, is_sized, has_field, has_field_of, are_fields, is_struct_type, are_structs, field_depth, differ, field_names, field}
+use Rattle.oc_typing.specs.Typed.{Context}
 use Rattle.oc_cells.specs.Layout.{cells, field_cells}
 use Rattle.type_rules.specs.declared.judging.Heading.{Heading}
 use Rattle.type_rules.specs.declared.judging.Seen.{Seen}
 use Rattle.type_rules.specs.declared.judging.OwnCall.{OwnCall}
 use Rattle.type_rules.specs.declared.judging.OwnCall.TheVariants as call_of
-use Rattle.type_rules.specs.Judging.{Judged, next}
 use Rattle.type_rules.specs.Lookup.{Lookup, find, same_name}
 use Rattle.type_rules.specs.Operators.{field_of, fields_of, field_in}
-use Rattle.type_rules.specs.Calls.{Called, Variable, Unknown, Print, Own, Known, function_from, called_own, called_function, called_name, called, own_call, types_of}
-use Rattle.type_rules.specs.Written.{bodies_of, at_function}
+use Rattle.type_rules.specs.Calls.{Variable, Unknown, Print, Own, Known, function_from, called_own, called_function, called_name, called, own_call}
 use Rattle.type_rules.specs.StatementRules.{Scope, add}
-use Rattle.type_rules.specs.ProgramRules.{statements, with_params, body, function, functions_from}
-use Rattle.type_rules.proofs.Laws.{fine_back, not_both, parted}
-use Rattle.rules_typed.specs.Grammatical.{GrammaticalStmts, GrammaticalBody, GrammaticalFunctions}
-use Rattle.rules_typed.specs.Agreeing.{Goes, GoodField, GoodFunction}
-use Rattle.rules_typed.proofs.Bools.{never, both, first, second, last, either, none_some, some_is, number_itself}
+use Rattle.type_rules.specs.ProgramRules.{statements, with_params, body}
+use Rattle.type_rules.proofs.Laws.{fine_back, parted}
+use Rattle.rules_typed.specs.Agreeing.{Goes, GoodField}
+use Rattle.rules_typed.proofs.Bools.{both, first, second, last, either, none_some, some_is, number_itself}
 use Rattle.rules_typed.proofs.Types.{itself}
 use Rattle.rules_typed.proofs.Slots.{one_on}
-use Rattle.rules_typed.proofs.Structs.{take_first}
 use Rattle.rules_typed.proofs.Growing.{grows_statements}
-use Rattle.rules_typed.proofs.Headings.{MadeParams, MadeHeading, MadeHeadings}
 
 -- Fields.
 

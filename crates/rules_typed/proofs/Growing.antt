@@ -1,5 +1,5 @@
 -- The slots of a walk go on from those before it, whatever is judged.
-use Rattle.std.proofs.Common.{ℕ, ◌+◌, ◌≡◌, List, [], ◌∷◌, ◌++◌, length, Option, Some, None, Ok, Err, refl, sym, ap, ◌∙◌, subst, Bool, true, false, append_assoc, append-nil}
+use Rattle.std.proofs.Common.{ℕ, ◌+◌, List, [], ◌∷◌, ◌++◌, length, Option, Some, None, Ok, Err, refl, sym, ap, ◌∙◌, Bool, true, false, append_assoc, append-nil}
 use Rattle.std.specs.Prelude.{not, IfOk}
 use Rattle.oc_values.specs.declared.integers.IntKind.TheVariants.{Bool as KBool}
 use Rattle.oc_cells.specs.declared.types.CType.{CType, Int}
@@ -11,9 +11,7 @@ use Rattle.oc_source.specs.declared.parsed.Declared.{Declared}
 use Rattle.oc_source.specs.declared.parsed.StmtNode.{StmtNode, Declare, Express, Block', If', OblivIf', Always', While', For', Return, Break, Continue, Empty, Row_of-Stmt, end_of-Stmt, more_of-Stmt, Held-StmtNode-If-2, None', Some'}
 use Rattle.oc_source.specs.declared.parsed.ForInit.{ForInit}
 use Rattle.oc_source.specs.declared.parsed.ForInit.TheVariants as begin
-use Rattle.oc_typed.specs.declared.typed.TExpr.{TExpr}
 use Rattle.oc_typed.specs.declared.typed.TDeclared.{TDeclared}
-use Rattle.oc_typed.specs.declared.typed.TStmt.{TStmt}
 use Rattle.type_rules.specs.declared.judging.TypeRule.TheVariants.{T2}
 use Rattle.type_rules.specs.Judging.{Judged, next, needs}
 use Rattle.type_rules.specs.Lookup.{Lookup}

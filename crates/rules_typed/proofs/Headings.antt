@@ -1,11 +1,10 @@
 -- The headings that the rules find: types of a typed tree, and names that differ where there is a body.
-use Rattle.std.proofs.Common.{ℕ, zero, suc, ◌+◌, ◌≡◌, List, [], ◌∷◌, ◌++◌, length, Option, Some, None, Ok, refl, sym, ap, ◌∙◌, subst, Bool, true, false, nat_eq, arith, append-nil}
-use Rattle.std.specs.Prelude.{◌&&◌, ◌||◌, not, is_some, is_none}
+use Rattle.std.proofs.Common.{ℕ, suc, ◌≡◌, List, [], ◌∷◌, ◌++◌, length, Option, Some, None, Ok, refl, sym, ap, ◌∙◌, subst, true, false, nat_eq, append-nil}
+use Rattle.std.specs.Prelude.{◌&&◌, not, is_some, is_none}
 use Rattle.oc_cells.specs.declared.types.CType.{CType, Nothing}
 use Rattle.oc_cells.specs.declared.types.SlotType.{SlotType}
 use Rattle.oc_cells.specs.declared.types.StructType.{StructType}
 use Rattle.oc_cells.specs.Types.{is_struct, normal, public_structs}
-use Rattle.oc_cells.specs.Layout.{struct_cells}
 use Rattle.oc_source.specs.declared.parsed.TypeName.{TypeName}
 use Rattle.oc_source.specs.declared.parsed.StructDef.{StructDef}
 use Rattle.oc_source.specs.declared.parsed.BaseName.{BaseName}
@@ -16,12 +15,11 @@ use Rattle.oc_typing.specs.Rules.{all, is_type, is_leaf, is_nothing}
 use Rattle.oc_typing.specs.Typed.{is_slot, is_result, slot_types}
 use Rattle.type_rules.specs.declared.judging.TypeRule.TheVariants.{T2, T11}
 use Rattle.type_rules.specs.declared.judging.Heading.{Heading}
-use Rattle.type_rules.specs.Judging.{Judged, next, needs}
-use Rattle.type_rules.specs.Lookup.{Lookup, same_name}
+use Rattle.type_rules.specs.Lookup.{Lookup}
 use Rattle.type_rules.specs.Calls.{own_call}
 use Rattle.type_rules.specs.Written.{has_name, base_type, starred, type_name, is_frozen_place, more_stars, array_fits, param_of, params, result_type, heading, may_stand, at_function, headings_from}
 use Rattle.type_rules.proofs.Laws.{fine_back, parted}
-use Rattle.rules_typed.proofs.Bools.{never, both, first, second, last, either}
+use Rattle.rules_typed.proofs.Bools.{both, first, second, last}
 use Rattle.rules_typed.proofs.Slots.{one_on}
 use Rattle.rules_typed.proofs.WrittenTypes.{needed, begins, Known, Written, written, written_good, written_leaf, written_slot, struct_of_normal}
 

@@ -8,7 +8,6 @@ use Rattle.oc_cells.specs.declared.types.CType.{CType, Int, Pointer', Array', St
 use Rattle.oc_cells.specs.Types.{same, is_normal}
 use Rattle.oc_source.specs.declared.spot.Spot.{Spot}
 use Rattle.oc_typed.specs.declared.typed.TExpr.{TExpr}
-use Rattle.oc_typed.specs.declared.typed.TPlace.{TPlace}
 use Rattle.oc_typed.specs.declared.typed.TExprNode.TheBlock.{hidden-the_row-TExpr-0, hidden-the_row-TExpr-1, hidden-the_row-TPlace-2}
 use Rattle.oc_cells.specs.declared.types.CType.TheBlock.{hidden-the_row-CType-0}
 use denote.Hole.Carrier.{hidden}
@@ -23,12 +22,10 @@ use Rattle.oc_typing.specs.Rules.{is_nothing}
 use Rattle.oc_typing.specs.Typed.{Context, is_of_node, alone}
 use Rattle.rules_typed.specs.Agreeing.{Passes, Valued}
 use Rattle.oc_typed.specs.declared.typed.Builtin.{Builtin}
-use mathlib.Core.Former.{this}
 use Rattle.type_rules.specs.declared.judging.Heading.{Heading}
 use Rattle.type_rules.specs.declared.judging.OwnCall.{OwnCall}
 use Rattle.type_rules.specs.declared.judging.Want.{Want}
 use Rattle.type_rules.specs.Calls.{Variable, Unknown, Print, Own, Known, Given}
-use Rattle.type_rules.specs.Rules.{value}
 use Rattle.oc_typed.specs.declared.typed.TExprNode as t
 use Rattle.type_rules.specs.Judging as judging
 use Rattle.oc_typing.specs.Rules as test

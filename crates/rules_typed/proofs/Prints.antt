@@ -8,7 +8,6 @@ use Rattle.oc_values.specs.Kinds.{promoted}
 use Rattle.oc_cells.specs.declared.types.CType.{CType, Int, Nothing}
 use Rattle.oc_source.specs.declared.spot.Spot.{Spot}
 use Rattle.oc_typed.specs.declared.typed.TExpr.{TExpr}
-use Rattle.oc_typed.specs.declared.typed.TPlace.{TPlace}
 use Rattle.oc_typed.specs.declared.typed.TExprNode.TheBlock.{hidden-the_row-TExpr-0, hidden-the_row-TExpr-1, hidden-the_row-TPlace-2}
 use denote.Hole.Carrier.{hidden}
 use Rattle.type_rules.specs.declared.judging.Found.{Found}

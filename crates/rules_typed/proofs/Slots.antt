@@ -1,6 +1,6 @@
 -- The slots that a walk adds: each is a variable's, and they are numbered in the order of the text.
 use Rattle.std.proofs.Common.{ℕ, suc, ◌≡◌, List, [], ◌∷◌, ◌++◌, length, Some, refl, sym, ap, ◌∙◌, subst, Bool, true, append_assoc}
-use Rattle.std.specs.Prelude.{◌&&◌, slice_get}
+use Rattle.std.specs.Prelude.{slice_get}
 use Rattle.oc_cells.specs.declared.types.SlotType.{SlotType}
 use Rattle.oc_typing.specs.Rules.{all}
 use Rattle.oc_typing.specs.Typed.{Context, is_slot, count_up}

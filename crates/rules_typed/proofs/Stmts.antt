@@ -1,11 +1,10 @@
 -- What the rules give for a statement passes the test.
-use Rattle.std.proofs.Common.{ℕ, ◌+◌, ◌≡◌, List, [], ◌∷◌, ◌++◌, length, Option, Some, None, Ok, Err, refl, sym, ap, ◌∙◌, subst, Bool, true, false, nat_eq, arith}
-use Rattle.std.specs.Prelude.{◌&&◌, ◌||◌, not, if◌then◌else◌, slice_get, IfOk}
+use Rattle.std.proofs.Common.{ℕ, ◌+◌, ◌≡◌, List, [], ◌∷◌, ◌++◌, length, Option, Some, None, Ok, Err, refl, sym, ap, ◌∙◌, subst, Bool, true, false}
+use Rattle.std.specs.Prelude.{◌&&◌, not, if◌then◌else◌, slice_get, IfOk}
 use Rattle.oc_values.specs.declared.integers.IntKind.TheVariants.{Bool as KBool}
 use Rattle.oc_cells.specs.declared.types.CType.{CType, Int}
 use Rattle.oc_cells.specs.declared.types.SlotType.{SlotType}
 use Rattle.oc_cells.specs.Types.{same}
-use Rattle.oc_cells.proofs.Equal.{same_is_equal}
 use Rattle.oc_source.specs.declared.spot.Spot.{Spot}
 use Rattle.oc_typed.specs.declared.typed.TExpr.{TExpr}
 use Rattle.oc_typed.specs.declared.typed.TStmt as made_stmt
@@ -46,7 +45,6 @@ use Rattle.rules_typed.proofs.Used.{value_used}
 use Rattle.rules_typed.proofs.Bools.{both, either, first, hidden_last, last, never, none_some, number_itself, some_is, some_none, three}
 use Rattle.rules_typed.proofs.Types.{held_of, itself, public_test}
 use Rattle.rules_typed.proofs.Nodes.{converted_good, int_good}
-use Rattle.rules_typed.proofs.OwnCalls.{shown}
 use Rattle.rules_typed.proofs.Slots.{there, Adds, adds_none, adds_both, adds_one}
 use Rattle.rules_typed.proofs.Exprs.{expressions_typed, valued_good}
 

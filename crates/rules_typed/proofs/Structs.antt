@@ -1,6 +1,6 @@
 -- The structs that the rules find pass the test.
 use Rattle.std.proofs.Common.{ℕ, zero, suc, ◌+◌, ◌≡◌, List, [], ◌∷◌, ◌++◌, length, take, Option, Some, None, Ok, refl, sym, ap, ◌∙◌, subst, Bool, true, false, nat_eq, nat_lt, slice_index_or, arith, append-nil}
-use Rattle.std.specs.Prelude.{◌&&◌, ◌||◌, not, nat_le, slice_get}
+use Rattle.std.specs.Prelude.{◌&&◌, ◌||◌, not, nat_le}
 use Rattle.std.proofs.lemmas.Bool.{not-true}
 use Rattle.oc_cells.specs.declared.types.CType.{CType, Int, Pointer', Array', Struct, Nothing, Row_of-CType, more_of-CType, end_of-CType}
 use Rattle.oc_cells.specs.declared.types.CType.TheViews.{Pointer}
@@ -18,14 +18,13 @@ use Rattle.oc_source.specs.declared.parsed.StructDef.{StructDef}
 use Rattle.oc_typing.specs.Rules.{all, is_type, is_sized, field_depth, is_new, differ, field_names, are_fields, is_struct_type, are_structs}
 use Rattle.oc_typing.specs.Rules as test
 use Rattle.type_rules.specs.declared.judging.TypeRule.TheVariants.{T1, T2, T11}
-use Rattle.type_rules.specs.Judging.{Judged, next, needs}
 use Rattle.type_rules.specs.Lookup.{Lookup, same_name}
 use Rattle.type_rules.specs.Written.{has_name, number_from, number_or, struct_named, base_kind, base_type, base_public, field_public, some_public_field, public_from, struct_names, starred, arrays, cells_of, fields, depths_after, struct_type, with_struct, structs_from}
 use Rattle.type_rules.specs.ProgramRules.{first_lookup}
 use Rattle.type_rules.proofs.Laws.{fine_back, not_both, parted}
 use Rattle.rules_typed.specs.Grammatical.{has_fields, GrammaticalStructs}
-use Rattle.rules_typed.proofs.Bools.{never, both, three, first, second, none_some, some_is, number_itself}
-use Rattle.rules_typed.proofs.Slots.{one_on, length_one, all_on, all_one}
+use Rattle.rules_typed.proofs.Bools.{never, both, three, first, second, number_itself}
+use Rattle.rules_typed.proofs.Slots.{one_on, length_one, all_one}
 use Rattle.rules_typed.proofs.WrittenTypes.{needed, is_cells, cells_at, Known, Least, Declares, declares, field_least, field_fits, field_good}
 
 -- Names.
@@ -363,13 +362,13 @@ pub take_first : {A : Type 0} (xs ys : List A) → take (length xs) (xs ++ ys) �
 take_first [] ys = refl
 take_first (x ∷ xs) ys = ap (λ l. x ∷ l) (take_first xs ys)
 
-all_split : {A : Type 0} (f : A → Bool) (xs : List A) (y : A) → all f (xs ++ y ∷ []) ≡ true → (all f xs ≡ true) × (f y ≡ true)
+pub all_split : {A : Type 0} (f : A → Bool) (xs : List A) (y : A) → all f (xs ++ y ∷ []) ≡ true → (all f xs ≡ true) × (f y ≡ true)
 all_split f [] y h = (refl, first (f y) true h)
 all_split f (x ∷ xs) y h =
     let z = all_split f xs y (second (f x) (all f (xs ++ y ∷ [])) h) in
     (both (first (f x) (all f (xs ++ y ∷ [])) h) z.0, z.1)
 
-none_left : (ys : List (List ℕ)) → all (λ y. is_new y []) ys ≡ true
+pub none_left : (ys : List (List ℕ)) → all (λ y. is_new y []) ys ≡ true
 none_left [] = refl
 none_left (y ∷ ys) = none_left ys
 

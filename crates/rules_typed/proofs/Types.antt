@@ -11,10 +11,8 @@ use Rattle.oc_cells.specs.declared.types.CType.{CType, Int, Pointer', Array', St
 use Rattle.oc_cells.specs.Types.{alike, same, first_type, target, is_pointer, is_integer, is_hidden}
 use Rattle.oc_cells.proofs.Equal.{same_is_equal}
 use Rattle.type_rules.specs.Judging.{both_integers}
-use Rattle.type_rules.specs.Lookup.{is, number}
 use Rattle.oc_typing.specs.Rules.{is_nothing, is_promoted}
 use Rattle.oc_typing.specs.Typed.{Context, is_of_node}
-use Rattle.type_rules.specs.Rules.{one}
 use Rattle.type_rules.specs.Judging as judging
 use Rattle.oc_typing.specs.Rules as test
 use Rattle.oc_values.specs.Kinds as kinds

@@ -1,12 +1,12 @@
 -- A type that the rules find for a written one is a type of a typed tree.
-use Rattle.std.proofs.Common.{ℕ, zero, suc, ◌+◌, ◌*◌, ◌≡◌, List, [], ◌∷◌, length, Option, Some, None, Ok, Err, refl, sym, ap, ◌∙◌, subst, Bool, true, false, nat_eq, nat_lt, slice_index_or, arith}
+use Rattle.std.proofs.Common.{ℕ, zero, suc, ◌+◌, ◌*◌, ◌≡◌, List, [], ◌∷◌, length, Option, Some, None, Ok, refl, sym, ap, ◌∙◌, subst, Bool, true, false, nat_eq, nat_lt, slice_index_or, arith}
 use Rattle.std.specs.Prelude.{◌&&◌, ◌||◌, not, if◌then◌else◌, nat_le}
 use Rattle.oc_cells.specs.declared.types.CType.{CType, Int, Pointer', Array', Struct, Nothing, Row_of-CType, more_of-CType, end_of-CType}
 use Rattle.oc_cells.specs.declared.types.CType.TheViews.{Pointer, Array}
 use Rattle.oc_cells.specs.declared.types.CType.TheBlock.{hidden-the_row-CType-0}
 use denote.Hole.Carrier.{hidden}
 use Rattle.oc_cells.specs.declared.types.StructType.{StructType}
-use Rattle.oc_cells.specs.Types.{is_struct, normal, normal_row, is_normal, public_structs}
+use Rattle.oc_cells.specs.Types.{is_struct, normal, normal_row, public_structs}
 use Rattle.oc_cells.specs.Layout.{cells, cells_row, struct_cells}
 use Rattle.oc_cells.proofs.Normal.{normal_forms}
 use Rattle.oc_source.specs.declared.spot.Spot.{Spot}
@@ -15,15 +15,15 @@ use Rattle.oc_source.specs.declared.parsed.BaseKind.{BaseKind}
 use Rattle.oc_source.specs.declared.parsed.BaseKind.TheVariants as base
 use Rattle.oc_source.specs.declared.parsed.TypeName.{TypeName}
 use Rattle.oc_source.specs.declared.parsed.FieldDef.{FieldDef}
-use Rattle.oc_typing.specs.Rules.{all, is_sized, is_whole, is_whole_row, is_type, is_leaf}
+use Rattle.oc_typing.specs.Rules.{all, is_whole, is_whole_row, is_type, is_leaf}
 use Rattle.oc_typing.specs.Typed.{is_starred, is_starred_row, is_slot}
 use Rattle.type_rules.specs.declared.judging.TypeRule.{TypeRule}
 use Rattle.type_rules.specs.declared.judging.TypeRule.TheVariants.{T1, T11}
-use Rattle.type_rules.specs.Judging.{Judged, next, breaks, needs}
+use Rattle.type_rules.specs.Judging.{Judged, next, needs}
 use Rattle.type_rules.specs.Lookup.{Lookup, same_name}
 use Rattle.type_rules.specs.Written.{number_from, struct_named, base_kind, base_type, starred, arrays, is_length, are_lengths, cells_of, type_name, field_type, is_frozen_place}
 use Rattle.type_rules.proofs.Laws.{fine_back, not_both, parted}
-use Rattle.rules_typed.proofs.Bools.{never, both, three, first, second, none_some, some_is}
+use Rattle.rules_typed.proofs.Bools.{never, both, first, second, none_some, some_is}
 
 -- an answer after a rule that is kept
 pub needed : {A : Type 0} (p : Spot) (t : TypeRule) (c : Bool) (k : Judged A) (a : A) → next (needs p t c) (λ _. k) ≡ Ok a → (c ≡ true) × (k ≡ Ok a)

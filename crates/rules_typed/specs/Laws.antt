@@ -1,15 +1,18 @@
 -- What the rules of typing give passes the test of typed trees.
-use Rattle.std.specs.Prelude.{ℕ, ◌≡◌, List, Bool, true, IfOk}
+use Rattle.std.specs.Prelude.{ℕ, ◌≡◌, List, Bool, true, Ok, IfOk}
 use Rattle.oc_cells.specs.declared.types.SlotType.{SlotType}
 use Rattle.oc_source.specs.declared.spot.Spot.{Spot}
 use Rattle.oc_source.specs.declared.parsed.ExprNode.{ExprNode}
 use Rattle.oc_source.specs.declared.parsed.StmtNode.{StmtNode}
-use Rattle.oc_typing.specs.Typed.{Context}
+use Rattle.oc_source.specs.declared.parsed.Program.{Program}
+use Rattle.oc_typing.specs.declared.program.Typed.{Typed}
+use Rattle.oc_typing.specs.Typed.{Context, is_typed}
 use Rattle.oc_typing.specs.Typed as typed
 use Rattle.type_rules.specs.Lookup.{Lookup}
 use Rattle.type_rules.specs.Rules.{expr}
 use Rattle.type_rules.specs.StatementRules.{Scope, stmt}
-use Rattle.rules_typed.specs.Grammatical.{Grammatical, GrammaticalStmt}
+use Rattle.type_rules.specs.ProgramRules.{typed_program}
+use Rattle.rules_typed.specs.Grammatical.{Grammatical, GrammaticalStmt, GrammaticalProgram}
 use Rattle.rules_typed.specs.Agreeing.{Passes, Agrees, AgreesApart, Goes, SeesAll}
 
 -- of an expression: where the rules look up what the context has, it breaks a rule, or what they give passes the test
@@ -25,3 +28,8 @@ StatementsAreTyped =
     → AgreesApart r g → GrammaticalStmt c
     → IfOk (stmt r loop p c z) (λ q. (f : List SlotType) (vis : List ℕ) → Goes q.1.slots f → SeesAll g vis z.seen f
       → typed.stmt (record g { slots = f }) loop vis q.0.node ≡ true)
+
+-- of a program: it breaks a rule, or its typed tree passes the test
+abbrev pub ProgramsAreTyped : Type 0
+ProgramsAreTyped =
+    (p : Program) (t : Typed) → GrammaticalProgram p → typed_program p ≡ Ok t → is_typed t.structs t.functions t.entry ≡ true
