@@ -26,13 +26,15 @@ use Rattle.type_rules.specs.ProgramRules.{statements, with_params, body, functio
 use Rattle.type_rules.proofs.Laws.{fine_back, parted}
 use Rattle.rules_typed.specs.Grammatical.{is_declaration, GrammaticalStmts, GrammaticalBody, GrammaticalFunctions}
 use Rattle.rules_typed.specs.Agreeing.{Goes, GoodFunction, AgreesApart, SeesAll}
-use Rattle.rules_typed.proofs.Bools.{never, both, first, second, last, none_some, some_is, number_itself}
+use Rattle.rules_typed.proofs.Bools.{never, both, first, second, last, none_some, some_is}
 use Rattle.rules_typed.proofs.Types.{itself}
 use Rattle.rules_typed.proofs.Slots.{one_on, length_one}
 use Rattle.rules_typed.proofs.Stmts.{DoneRows, rows_none, rows_more, rows_test, sees_more, stmt_done}
 use Rattle.rules_typed.proofs.Structs.{take_first}
 use Rattle.rules_typed.proofs.Headings.{MadeHeading, MadeHeadings}
 use Rattle.rules_typed.proofs.Found.{params_slots, started, MadeFunction, made_function}
+use Rattle.rules_typed.proofs.Numbers.{number_itself, suc_is}
+use Rattle.rules_typed.proofs.Numbers as number
 
 -- the functions with a body, each with its heading
 pub data Built (g : Lookup) (ds : List StructDef) (sizes : List ℕ) (structs : List StructType) : List Heading → List TypedFunction → Type 0 where
@@ -44,6 +46,7 @@ pub data Built (g : Lookup) (ds : List StructDef) (sizes : List ℕ) (structs : 
 abbrev Building : Lookup → List StructDef → List ℕ → List StructType → List Heading → List TypedFunction → List TypedFunction → Type 0
 Building g ds sizes structs hs done ts = (us : List TypedFunction) × Built g ds sizes structs hs us × (ts ≡ done ++ us)
 
+-- what is found for functions
 pub built : (g : Lookup) (ds : List StructDef) (sizes : List ℕ) (structs : List StructType) (earlier : List Heading) (fs : List Function) (hs : List Heading) (done ts : List TypedFunction)
     → MadeHeadings sizes structs earlier fs hs → GrammaticalFunctions fs → functions_from g ds done fs hs ≡ Ok ts → Building g ds sizes structs (bodies_of hs) done ts
 unfolding next
@@ -66,6 +69,7 @@ built g ds sizes structs earlier (f ∷ fs) (h ∷ hs) done ts m b q = on f.body
 
 -- Calls.
 
+-- lists of types
 types_same : (ss : List SlotType) → types_of ss ≡ slot_types ss
 types_same [] = refl
 types_same (s ∷ ss) = ap (λ l. s.ty ∷ l) (types_same ss)
@@ -74,12 +78,14 @@ all_same : (ts : List CType) → same_all ts ts ≡ true
 all_same [] = refl
 all_same (t ∷ ts) = both (itself t) (all_same ts)
 
+-- the types of slots are types
 types_typed : (sizes : List ℕ) (public : List Bool) (ss : List SlotType) → all (is_slot sizes public) ss ≡ true → all (λ u. is_type sizes public u) (types_of ss) ≡ true
 types_typed sizes public [] h = refl
 types_typed sizes public (s ∷ ss) h =
     both (first (is_type sizes public s.ty) (not (s.frozen && is_starred s.ty)) (first (is_slot sizes public s) (all (is_slot sizes public) ss) h))
     (types_typed sizes public ss (second (is_slot sizes public s) (all (is_slot sizes public) ss) h))
 
+-- parameters stand first
 params_first : (params slots : List SlotType) (n : ℕ) → n ≡ length params → Goes params slots → slot_types (take n slots) ≡ slot_types params
 params_first params slots n e g = ap (λ l. slot_types l) (ap (λ m. take m slots) e ∙ ap (λ l. take (length params) l) g.1 ∙ take_first params g.0)
 
@@ -93,6 +99,7 @@ pub record HasHeading (sizes : List ℕ) (public : List Bool) (h : Heading) (t :
   pub typed : all (λ u. is_type sizes public u) (types_of h.params) ≡ true
   pub gives : is_result sizes public h.result ≡ true
 
+-- so has each that is found
 pub has_heading : (sizes : List ℕ) (structs : List StructType) (r : Lookup) (f : Function) (h : Heading) (ss : List Stmt) (t : TypedFunction) → MadeHeading sizes structs f h → MadeFunction r f h ss t → HasHeading sizes (public_structs structs) h t
 has_heading sizes structs r f h ss t m n = record {
   name = ap (λ t. t.name) n.is ∙ sym m.name;
@@ -112,6 +119,7 @@ has_function g ds sizes structs _ _ zero h (built_more {f} {h = k} {ss} {t} m b 
     (t, refl, subst (λ h. HasHeading sizes (public_structs structs) h t) (some_is q) (has_heading sizes structs (record (at_function g ds f) { result = k.result }) f k ss t m n))
 has_function g ds sizes structs _ _ (suc n) h (built_more {hs} {ts} m b k rest) q = has_function g ds sizes structs hs ts n h rest q
 
+-- a result may be the type of a node
 result_of_node : (g : Context) (u : CType) → is_result g.sizes g.public u ≡ true → is_of_node g u ≡ true
 result_of_node g u h = on (is_nothing u) (is_null u) (is_leaf u) (is_type g.sizes g.public u) h
   where
@@ -122,6 +130,7 @@ result_of_node g u h = on (is_nothing u) (is_null u) (is_leaf u) (is_type g.size
     on false b true false h = never h
     on false b false d h = never h
 
+-- so a function that is found is the typed one
 pub good_function : (g : Context) (n : ℕ) (h : Heading) (t : TypedFunction) → slice_get g.functions n ≡ Some t → HasHeading g.sizes g.public h t → GoodFunction g n h
 good_function g n h t e k = record {
   params = k.typed;
@@ -132,6 +141,7 @@ good_function g n h t e k = record {
 
 -- Parameters.
 
+-- what goes on from more goes on from less
 goes_less : (a b f : List SlotType) → Goes (a ++ b) f → Goes a f
 goes_less a b f g = (b ++ g.0, g.1 ∙ append_assoc a b g.0)
 
@@ -140,23 +150,14 @@ module _ (r : Lookup) (g : Context) (around : AgreesApart r g) where
   params_seen : (ps : List Param) (ss : List SlotType) (z : Scope) (f : List SlotType) (vis : List ℕ) → length ss ≡ length ps → all (is_slot g.sizes g.public) ss ≡ true → Goes (z.slots ++ ss) f → SeesAll g vis z.seen f
       → SeesAll g (after_params vis (length z.slots) (slot_types ss)) (with_params ps ss z).seen f
   params_seen [] [] z f vis q k e h = h
-  params_seen [] (s ∷ ss) z f vis q k e h = absurd (no_list (length ss) q)
-    where
-      no_list : (n : ℕ) → suc n ≡ 0 → ⊥
-      no_list n q = omega arith
-  params_seen (p ∷ ps) [] z f vis q k e h = absurd (no_list (length ps) q)
-    where
-      no_list : (n : ℕ) → 0 ≡ suc n → ⊥
-      no_list n q = omega arith
+  params_seen [] (s ∷ ss) z f vis q k e h = absurd (number.some_none (length ss) q)
+  params_seen (p ∷ ps) [] z f vis q k e h = absurd (number.none_some (length ps) q)
   params_seen (p ∷ ps) (s ∷ ss) z f vis q k e h =
       let on = subst (λ l. Goes l f) (sym (one_on z.slots ss s)) e in
       let ty = first (is_type g.sizes g.public s.ty) (not (s.frozen && is_starred s.ty)) (first (is_slot g.sizes g.public s) (all (is_slot g.sizes g.public) ss) k) in
       let more = sees_more r g around z f vis p.name s.ty s.frozen ty (goes_less (z.slots ++ s ∷ []) ss f on) h in
       subst (λ n. SeesAll g (after_params (length z.slots ∷ vis) n (slot_types ss)) (with_params (p ∷ ps) (s ∷ ss) z).seen f) (length_one z.slots s)
-      (params_seen ps ss (add p.name s.ty s.frozen z) f (length z.slots ∷ vis) (less (length ss) (length ps) q) (second (is_slot g.sizes g.public s) (all (is_slot g.sizes g.public) ss) k) on more)
-    where
-      less : (m n : ℕ) → suc m ≡ suc n → m ≡ n
-      less m n q = omega arith
+      (params_seen ps ss (add p.name s.ty s.frozen z) f (length z.slots ∷ vis) (suc_is (length ss) (length ps) q) (second (is_slot g.sizes g.public s) (all (is_slot g.sizes g.public) ss) k) on more)
 
   -- the statements of a body
   statements_done : (ss : List Stmt) (z : Scope) → GrammaticalStmts ss → IfOk (statements r ss z) (λ q. DoneRows r g around false z q.0 q.1)
@@ -169,13 +170,16 @@ module _ (r : Lookup) (g : Context) (around : AgreesApart r g) where
       both (first (typed.stmt (record g { slots = f }) false vis x.node) (rows_test r g around f false (after_node vis x.node) xs) h)
       (rows_stmts f (after_node vis x.node) xs (second (typed.stmt (record g { slots = f }) false vis x.node) (rows_test r g around f false (after_node vis x.node) xs) h))
 
+-- what goes on is no shorter
 longer : (a f : List SlotType) → Goes a f → nat_le (length a) (length f) ≡ true
 longer a f g = subst (λ l. nat_le (length a) (length l) ≡ true) (sym g.1) (on a g.0)
   where
     none : (n : ℕ) → nat_le 0 n ≡ true
     none n = grind arith
+
     more : (m n : ℕ) → nat_le m n ≡ true → nat_le (suc m) (suc n) ≡ true
     more m n h = grind arith
+
     on : (a b : List SlotType) → nat_le (length a) (length (a ++ b)) ≡ true
     on [] b = none (length b)
     on (x ∷ a) b = more (length a) (length (a ++ b)) (on a b)

@@ -1,17 +1,20 @@
 -- Tests that hold, and what may be there.
-use Rattle.std.proofs.Common.{ℕ, ◌≡◌, Some, None, refl, sym, subst, Bool, true, false, nat_eq, arith}
-use Rattle.std.specs.Prelude.{◌&&◌, ◌||◌, not, nat_le}
+use Rattle.std.proofs.Common.{◌≡◌, Some, None, refl, sym, subst, Bool, true, false}
+use Rattle.std.specs.Prelude.{◌&&◌, ◌||◌, not}
 use Rattle.std.proofs.lemmas.Bool.{false≢true}
 
+-- what is false is not true
 pub never : {P : Type 0} → false ≡ true → P
 never e = absurd (false≢true e)
 
+-- two tests, and three
 pub both : {a b : Bool} → a ≡ true → b ≡ true → (a && b) ≡ true
 both {a} {b} p q = subst (λ c. (c && b) ≡ true) (sym p) q
 
 pub three : {a b c : Bool} → a ≡ true → b ≡ true → c ≡ true → (a && b && c) ≡ true
 three p q r = both (both p q) r
 
+-- the first and the second of two tests
 pub first : (a b : Bool) → (a && b) ≡ true → a ≡ true
 first true b e = refl
 first false b e = never e
@@ -20,6 +23,7 @@ pub second : (a b : Bool) → (a && b) ≡ true → b ≡ true
 second true b e = e
 second false b e = never e
 
+-- one of two tests, where one fails or holds
 pub or_none : (a : Bool) → (a || false) ≡ true → a ≡ true
 or_none true h = refl
 or_none false h = h
@@ -51,11 +55,13 @@ pub leads : (n z a b : Bool) → (false || z || a) ≡ true → not n ≡ true �
 leads n true a b h k f e = never (subst (λ m. not m ≡ true) (e refl) k)
 leads n false a b h k f e = f h
 
+-- by cases: which of several tests holds
 pub one_of : {P : Type 0} (a b c : Bool) → (a ≡ true → P) → (b ≡ true → P) → (c ≡ true → P) → (a || b || c) ≡ true → P
 one_of true b c f g h k = f refl
 one_of false true c f g h k = g refl
 one_of false false c f g h k = h k
 
+-- where the first test fails, one of the others holds
 pub others : (a b c d : Bool) → a ≡ false → (a || b || c || d) ≡ true → (b || c || d) ≡ true
 others true b c d q k = never (sym q)
 others false b c d q k = k
@@ -64,6 +70,7 @@ pub either_way : {P : Type 0} (a b : Bool) → (a ≡ true → P) → (b ≡ tru
 either_way true b f g k = f refl
 either_way false b f g k = g k
 
+-- a hidden result has the marks of its operands
 pub marked : (o : Bool) → (not o || o) ≡ true
 marked true = refl
 marked false = refl
@@ -85,6 +92,7 @@ pub not_back : (b : Bool) → not (b && false) ≡ true
 not_back true = refl
 not_back false = refl
 
+-- where neither test holds
 pub left_false : (a b : Bool) → (a || b) ≡ false → a ≡ false
 left_false true b h = h
 left_false false b h = refl
@@ -93,6 +101,7 @@ pub right_false : (a b : Bool) → (a || b) ≡ false → b ≡ false
 right_false true b h = never (sym h)
 right_false false b h = h
 
+-- what may be there
 pub some_is : {A : Type 0} {a b : A} → Some a ≡ Some b → a ≡ b
 some_is q = (cc)
 
@@ -101,12 +110,3 @@ none_some q = (cc)
 
 pub some_none : {A : Type 0} {a : A} → Some a ≡ None → ⊥
 some_none q = (cc)
-
-pub number_itself : (n : ℕ) → nat_eq n n ≡ true
-number_itself n = grind arith
-
-pub number_is : (n m : ℕ) → nat_eq n m ≡ true → n ≡ m
-number_is n m h = grind arith
-
-pub at_most : (a b n : ℕ) → nat_le a b ≡ true → nat_le b n ≡ true → nat_le a n ≡ true
-at_most a b n h i = grind arith

@@ -45,18 +45,20 @@ use Rattle.type_rules.specs.declared.judging.Want.TheVariants as want
 use Rattle.type_rules.specs.Calls as calls
 use Rattle.type_rules.specs.Prints as prints
 use Rattle.type_rules.specs.Rules as rules
-use Rattle.rules_typed.proofs.Bools.{both, first, never, none_some, number_is, second}
+use Rattle.rules_typed.proofs.Bools.{both, first, never, none_some, second}
 use Rattle.rules_typed.proofs.Types.{public_test}
 use Rattle.rules_typed.proofs.Nodes.{assigned_good, bump_good, cast_good, choice_good, converted_good, deny_good, deref_node, field_good, flip_test, follow_good, if_needs, index_good, logic_good, minus_test, negate_good, node_of, number_good, of_type, operate_good, plus_test, refer_good, target_type, updated_good, value_good, variable_good}
 use Rattle.rules_typed.proofs.Arguments.{AllAlone, Matched, all_alone, exprs_row, length_types, matched_types, types_in, types_row}
 use Rattle.rules_typed.proofs.Prints.{GivesPrinted, after_any, if_printed, print_good, printed_as, printed_more}
 use Rattle.rules_typed.proofs.OwnCalls.{Told1, exact_none, Exact, IsFed, Told, bytes_of, called_shown, either_same, extra_good, more_good, none_given, only_count, own_called_good, private_given, private_many, private_of, shown, size_of, times, value_given}
+use Rattle.rules_typed.proofs.Numbers.{number_is}
 
 module _ (r : Lookup) (g : Context) (vis : List ℕ) (fits : Agrees r g vis) where
   -- what is judged to have a value
   abbrev pub Gives : Judged TExpr → Type 0
   Gives m = IfOk m (λ e. alone g vis e ≡ true)
 
+  -- a part, and what follows
   pub if_next : (m : Judged Found) (k : Found → Judged Found) → Passes g vis m → ((f : Found) → Good g vis f → Passes g vis (k f)) → Passes g vis (next m k)
   unfolding next
   if_next (Ok f) k h i = i f h
@@ -67,20 +69,24 @@ module _ (r : Lookup) (g : Context) (vis : List ℕ) (fits : Agrees r g vis) whe
   if_value (Ok e) k h i = i e h
   if_value (Err e) k h i = tt
 
+  -- its value passes
   pub valued_good : (m : Judged Found) → Passes g vis m → Gives (valued m)
   unfolding next
   valued_good (Ok f) h = value_good g vis f h
   valued_good (Err e) h = tt
 
+  -- `NULL`
   pub null_node : (p : Spot) → Passes g vis (is p (Pointer false Nothing) t.NullPointer)
   unfolding hidden-the_row-CType-0 hidden
   null_node p = refl
 
+  -- what breaks a rule in any case
   pub broken_after : {A : Type 0} (m : Judged A) (p : Spot) (b : TypeRule) → Passes g vis (next m (λ _. breaks p b))
   unfolding next
   broken_after (Ok a) p b = tt
   broken_after (Err e) p b = tt
 
+  -- an operator with one operand
   pub unary_good : (p : Spot) (o : UnaryOp) (f : Found) → Good g vis f → Passes g vis (unary p o f)
   unary_good p Neg f h = negate_good g vis p op.Neg (value_of f) (minus_test g vis) (value_good g vis f h)
   unary_good p Plus f h = negate_good g vis p op.Plus (value_of f) (plus_test g vis) (value_good g vis f h)
@@ -89,14 +95,17 @@ module _ (r : Lookup) (g : Context) (vis : List ℕ) (fits : Agrees r g vis) whe
   unary_good p Deref f h = follow_good g vis p (value_of f) (value_good g vis f h)
   unary_good p Address f h = refer_good g vis p f h
 
+  -- an assignment
   pub assign_good : (p : Spot) (o : Option BinaryOp) (f : Found) (v : TExpr) → Computes o → Good g vis f → alone g vis v ≡ true → Passes g vis (assign p o f v)
   assign_good p None f v u h i = assigned_good g vis p f v h i
   assign_good p (Some o) f v u h i = updated_good g vis p o f v (ap (λ b. not b) u) h i
 
+  -- a field of a place
   pub member_good : (p : Spot) (x : List ℕ) (f : Found) → Good g vis f → Passes g vis (field r p x f)
   member_good p x (Value e) h = tt
   member_good p x (Place q) h = field_good g vis p q (field_in r q.ty x) (fits.fields q.ty x) h.0 h.1
 
+  -- what has a field is a struct
   pub some_struct : (u : CType) (x : List ℕ) (f : FieldType) → field_in r u x ≡ Some f → is_struct u ≡ true
   some_struct (Struct n) x f h = refl
   some_struct (Int k o) x f h = absurd (none_some h)
@@ -104,6 +113,7 @@ module _ (r : Lookup) (g : Context) (vis : List ℕ) (fits : Agrees r g vis) whe
   some_struct (Array' k o y) x f h = absurd (none_some h)
   some_struct Nothing x f h = absurd (none_some h)
 
+  -- what leads to a struct leads to something
   pub to_struct : (u : CType) → is_struct (target u) ≡ true → judging.leads u ≡ true
   to_struct (Pointer' f v (more_of-CType (Struct n) end_of-CType)) h = refl
   to_struct (Pointer' f v (more_of-CType (Int k o) end_of-CType)) h = never h
@@ -115,12 +125,14 @@ module _ (r : Lookup) (g : Context) (vis : List ℕ) (fits : Agrees r g vis) whe
   to_struct (Struct n) h = never h
   to_struct Nothing h = never h
 
+  -- a field of where a pointer leads
   pub arrow_at : (p : Spot) (x : List ℕ) (e : TExpr) (o : Option FieldType) → field_in r (target e.ty) x ≡ o → alone g vis e ≡ true → Passes g vis (field_at p (record { spot = p; ty = target e.ty; node = place.Deref e }) o)
   arrow_at p x e None q h = tt
   arrow_at p x e (Some f) q h =
       let k = to_struct e.ty (some_struct (target e.ty) x f q) in
       field_good g vis p (record { spot = p; ty = target e.ty; node = place.Deref e }) (Some f) (subst (λ o. GoodField g o (target e.ty)) q (fits.fields (target e.ty) x)) (target_type g vis e.ty (node_of g vis e h) k) (deref_node g vis e h k)
 
+  -- a written type, and what follows
   pub if_type : (w : TypeName) (k : CType → Judged Found) → ((u : CType) → of_type g vis u ≡ true → Passes g vis (k u)) → Passes g vis (next (type_name r w) k)
   unfolding next
   if_type w k f = at (type_name r w) (fits.types w)
@@ -129,14 +141,17 @@ module _ (r : Lookup) (g : Context) (vis : List ℕ) (fits : Agrees r g vis) whe
       at (Ok u) i = f u (i u refl)
       at (Err e) i = tt
 
+-- nothing is wanted where arguments are left
 pub no_length : (n : ℕ) → nat_eq 0 (suc n) ≡ true → ⊥
 no_length n h = grind arith
 
 module _ (r : Lookup) (g : Context) (vis : List ℕ) (fits : Agrees r g vis) where
+  -- the node of a call
   pub call_node : (p : Spot) (n : ℕ) (u : CType) (vs : List TExpr) → is_of_node g u ≡ true → typed.call u (types_in vs) (slice_get g.functions n) ≡ true → AllAlone g vis vs → alone g vis (record { spot = p; ty = u; node = t.Call n vs }) ≡ true
   unfolding hidden-the_row-TExpr-0 hidden-the_row-TExpr-1 hidden-the_row-TPlace-2 hidden
   call_node p n u vs i c h = both i (both (subst (λ ts. typed.call u ts (slice_get g.functions n) ≡ true) (sym (types_row vs)) c) (exprs_row g vis vs h))
 
+  -- a call of a function
   pub function_good : (alone_here : Bool) (p : Spot) (x : List ℕ) (n : ℕ) (h : Heading) (vs : List TExpr) → called r x ≡ Known n h → Matched g vis (types_of h.params) vs → Passes g vis (function_called alone_here p n h vs)
   function_good alone_here p x n h vs q m =
       if_needs g vis p T3 (alone_here || not (is_nothing h.result)) _ (λ _.
@@ -145,6 +160,7 @@ module _ (r : Lookup) (g : Context) (vis : List ℕ) (fits : Agrees r g vis) whe
       (subst (λ ts. typed.call h.result ts (slice_get g.functions n) ≡ true) (sym (matched_types g vis (types_of h.params) vs m (number_is (length vs) (length h.params) k ∙ length_types h.params))) (fits.functions x n h q).call)
       (all_alone g vis (types_of h.params) vs m)))
 
+  -- arguments break a rule, or match their parameters
   abbrev pub GivesAll : List CType → Judged (List TExpr) → Type 0
   GivesAll ts m = IfOk m (λ es. Matched g vis ts es)
 
@@ -155,6 +171,7 @@ module _ (r : Lookup) (g : Context) (vis : List ℕ) (fits : Agrees r g vis) whe
   then_all ts us (Ok e) (Err b) P h i f = tt
   then_all ts us (Err b) rest P h i f = tt
 
+  -- an argument that is converted
   pub converted_all : (u : CType) (ts : List CType) (m : Judged TExpr) (rest : Judged (List TExpr)) → of_type g vis u ≡ true → IfOk m (λ e. alone g vis e ≡ true) → GivesAll ts rest → GivesAll (u ∷ ts) (next m (λ v. next (convert u v) (λ x. next rest (λ vs. Ok (x ∷ vs)))))
   unfolding next
   converted_all u ts (Err b) rest k h i = tt
@@ -169,11 +186,13 @@ module _ (r : Lookup) (g : Context) (vis : List ℕ) (fits : Agrees r g vis) whe
       at false true f = tt
       at false false f = tt
 
+  -- arguments, and what follows
   pub with_list : (ts : List CType) (m : Judged (List TExpr)) (k : List TExpr → Judged Found) → GivesAll ts m → ((vs : List TExpr) → Matched g vis ts vs → Passes g vis (k vs)) → Passes g vis (next m k)
   unfolding next
   with_list ts (Ok vs) k h f = f vs h
   with_list ts (Err b) k h f = tt
 
+  -- a call of what the name is
   pub invoked_good : (alone_here : Bool) (p : Spot) (x : List ℕ) (c : Called) (vs : Judged (List TExpr)) (a : Judged Given) (m : Judged Found) → called r x ≡ c → GivesAll (params_of c) vs → ((k : OwnCall) → c ≡ Own k → Passes g vis (next a (λ b. calls.own_called alone_here p k b))) → Passes g vis m → Passes g vis (invoked alone_here p c vs a m)
   invoked_good alone_here p x Variable vs a m q h f i = broken_after r g vis fits vs p T7
   invoked_good alone_here p x Unknown vs a m q h f i = broken_after r g vis fits vs p T1
@@ -189,6 +208,7 @@ module _ (r : Lookup) (g : Context) (vis : List ℕ) (fits : Agrees r g vis) whe
   params_whole x (Own k) q = refl
   params_whole x (Known n h) q = (fits.functions x n h q).params
 
+  -- a call of the language's own
   pub own_passes : (a : Bool) (p : Spot) (c : OwnCall) (m : Judged Given) → IfOk m (Told g vis (calls.wants c)) → shown g vis c ≡ true → Passes g vis (next m (λ b. calls.own_called a p c b))
   unfolding next
   own_passes a p c (Ok x) t s = own_called_good g vis a p c x t s
@@ -218,6 +238,7 @@ module _ (r : Lookup) (g : Context) (vis : List ℕ) (fits : Agrees r g vis) whe
       at (Ok u) (Err e) i h = tt
       at (Err e) m i h = tt
 
+  -- a product with a type behind
   pub behind_good : (w : TypeName) (m : Judged TExpr) → IfOk m (λ e. alone g vis e ≡ true) → IfOk (next m (λ v. next (rules.counted v) (λ a. next (sized r w) (λ b. Ok (rules.both_parts a b))))) (Told1 g vis want.Bytes)
   unfolding next
   behind_good w m h = at (type_name r w) m (fits.types w) h
@@ -232,18 +253,22 @@ module _ (r : Lookup) (g : Context) (vis : List ℕ) (fits : Agrees r g vis) whe
       at t (Ok v) i h = inner (judging.is_public v.ty) (judging.is_public (judging.bare v.ty)) t v i h (λ c. public_test v.ty c)
       at t (Err e) i h = tt
 
+  -- what is out of place
   pub wrong_good : (w : Want) → Told1 g vis w calls.given_wrong
   wrong_good w = (refl, λ n. never (sym n))
 
+  -- a product with a `sizeof`
   pub product_good : (o q : Option TypeName) (l k : Judged Found) → Passes g vis l → Passes g vis k → IfOk (rules.product r o q l k) (Told1 g vis want.Bytes)
   product_good (Some w) q l k h i = front_good w (valued k) (valued_good r g vis fits k i)
   product_good None (Some w) l k h i = behind_good w (valued l) (valued_good r g vis fits l h)
   product_good None None l k h i = wrong_good want.Bytes
 
+  -- an argument, judged in either way
   pub by_choice : (w : Want) (b : Bool) (x y : calls.Way) (m : Judged Found) (v : Judged TExpr) (z : Judged Given) → IfOk (calls.given_by x w m v z) (Told1 g vis w) → IfOk (calls.given_by y w m v z) (Told1 g vis w) → IfOk (calls.given_by (if b then x else y) w m v z) (Told1 g vis w)
   by_choice w true x y m v z h i = h
   by_choice w false x y m v z h i = i
 
+  -- an argument where something is wanted
   pub argument_good : (n : ExprNode) (p : Spot) (w : Want) → Passes g vis (expr r false p n) → IsFed g vis (rules.private r p n) → IfOk (rules.size r n) (Told1 g vis want.Bytes) → IfOk (calls.given_by (rules.way r w n) w (expr r false p n) (rules.private r p n) (rules.size r n)) (Told1 g vis w)
   argument_good n p want.Index h f z = value_given g vis want.Index (expr r false p n) h
   argument_good n p (want.Word k) h f z = by_choice (want.Word k) (rules.is_private_node r n) calls.ByPrivate calls.ByValue (expr r false p n) (rules.private r p n) (rules.size r n) (private_given g vis k (rules.private r p n) f) (value_given g vis (want.Word k) (expr r false p n) h)
@@ -258,6 +283,7 @@ module _ (r : Lookup) (g : Context) (vis : List ℕ) (fits : Agrees r g vis) whe
   argument_good n p want.Size h f z = value_given g vis want.Size (expr r false p n) h
 
   mutual
+    -- each form of an expression
     pub expr_good : (n : ExprNode) (alone_here : Bool) (p : Spot) → Grammatical n → Passes g vis (expr r alone_here p n)
     expr_good (Number l) a p h = number_good g vis p l
     expr_good NullPointer a p h = null_node r g vis fits p

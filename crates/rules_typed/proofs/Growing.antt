@@ -25,12 +25,14 @@ use Rattle.rules_typed.specs.Agreeing.{Goes}
 abbrev pub Grows : {A : Type 0} → Walk A → Type 0
 Grows m = (z : Scope) → IfOk (m z) (λ q. Goes z.slots q.1.slots)
 
+-- slots go on from themselves, and from those that they go on from
 goes_on : (a : List SlotType) → Goes a a
 goes_on a = ([], sym (append-nil a))
 
 goes_further : (a b c : List SlotType) → Goes a b → Goes b c → Goes a c
 goes_further a b c g h = (g.0 ++ h.0, h.1 ∙ ap (λ l. l ++ h.0) g.1 ∙ append_assoc a g.0 h.0)
 
+-- one walk after another
 grows_bind : {A B : Type 0} (m : Walk A) (k : A → Walk B) → Grows m → ((a : A) → Grows (k a)) → Grows (bind m k)
 unfolding next
 grows_bind {A} {B} m k f g z = on (m z) (f z)
@@ -38,6 +40,7 @@ grows_bind {A} {B} m k f g z = on (m z) (f z)
     then : (x : A × Scope) (n : Judged (B × Scope)) → Goes z.slots x.1.slots → IfOk n (λ q. Goes x.1.slots q.1.slots) → IfOk n (λ q. Goes z.slots q.1.slots)
     then x (Ok y) h i = goes_further z.slots x.1.slots y.1.slots h i
     then x (Err b) h i = tt
+
     on : (n : Judged (A × Scope)) → IfOk n (λ q. Goes z.slots q.1.slots) → IfOk (next n (λ r. k r.0 r.1)) (λ q. Goes z.slots q.1.slots)
     on (Ok x) h = then x (k x.0 x.1) h (g x.0 x.1)
     on (Err b) h = tt
@@ -52,6 +55,7 @@ unfolding next
 grows_judged (Ok a) z = goes_on z.slots
 grows_judged (Err b) z = tt
 
+-- a judgement, and a part with a scope of its own
 grows_ask : {A : Type 0} (m : Judged A) → Grows (ask m)
 grows_ask m z = grows_judged m z
 
@@ -63,6 +67,7 @@ grows_scoped {A} m f z = on (m (record z { level = z.level + 1 })) (f (record z 
     on (Ok x) h = h
     on (Err b) h = tt
 
+-- expressions
 grows_value : (g : Lookup) (e : Expr) → Grows (value_in g e)
 grows_value g e z = grows_judged (typed_value (at g z) e) z
 
@@ -73,13 +78,16 @@ grows_optional : (g : Lookup) (o : Option Expr) → Grows (optional_in g o)
 grows_optional g None = still
 grows_optional g (Some e) = grows_bind (value_in g e) (λ v. pure (Some v)) (grows_value g e) (λ v. still)
 
+-- an initialiser
 grows_initial : (g : Lookup) (u : CType) (o : Option Expr) → Grows (initial g u o)
 grows_initial g u None = still
 grows_initial g u (Some e) = grows_bind (value_in g e) _ (grows_value g e) (λ v. grows_bind (ask _) _ (grows_ask _) (λ x. still))
 
+-- a variable more
 added : (x : List ℕ) (u : CType) (frozen : Bool) (z : Scope) → Goes z.slots (add x u frozen z).slots
 added x u frozen z = (record { ty = u; frozen = frozen } ∷ [], refl)
 
+-- a declaration
 grows_declare : (g : Lookup) (d : Declared) → Grows (declare g d)
 unfolding next
 grows_declare g d z = on (field_type g d.field) (not (is_taken z.seen z.level d.field.name))
@@ -87,6 +95,7 @@ grows_declare g d z = on (field_type g d.field) (not (is_taken z.seen z.level d.
     then : {A : Type 0} (w : Scope) (n : Judged (A × Scope)) → Goes z.slots w.slots → IfOk n (λ q. Goes w.slots q.1.slots) → IfOk n (λ q. Goes z.slots q.1.slots)
     then w (Ok y) h i = goes_further z.slots w.slots y.1.slots h i
     then w (Err b) h i = tt
+
     on : (m : Judged CType) (b : Bool) → IfOk (next m (λ ty. next (needs d.field.spot T2 b) (λ _. bind {B = TDeclared} (initial g ty d.init) (λ v. pure (record { spot = d.field.spot; slot = length z.slots; init = v })) (add d.field.name ty (is_frozen_place d.field.base d.field.stars) z)))) (λ q. Goes z.slots q.1.slots)
     on (Err b) c = tt
     on (Ok u) false = tt
@@ -99,15 +108,18 @@ grows_declare_all : (g : Lookup) (ds : List Declared) → Grows (declare_all g d
 grows_declare_all g [] = still
 grows_declare_all g (d ∷ ds) = grows_bind (declare g d) _ (grows_declare g d) (λ x. grows_bind (declare_all g ds) _ (grows_declare_all g ds) (λ xs. still))
 
+-- the variable of a `~obliv`
 grows_mark : (x : List ℕ) → Grows (name_mark x)
 grows_mark x z = added x (Int KBool true) false z
 
+-- the header of a `for`
 grows_header : (g : Lookup) (i : ForInit) → Grows (header g i)
 grows_header g begin.Nothing = still
 grows_header g (begin.Declare ds) = grows_bind (declare_all g ds) _ (grows_declare_all g ds) (λ xs. still)
 grows_header g (begin.Express e) = grows_bind (value_in g e) _ (grows_value g e) (λ v. still)
 
 mutual
+  -- each form of a statement
   grows_stmt : (g : Lookup) (loop : Bool) (p : Spot) (c : StmtNode) → Grows (stmt g loop p c)
   grows_stmt g loop p (Declare ds) = grows_bind (declare_all g ds) _ (grows_declare_all g ds) (λ xs. still)
   grows_stmt g loop p (Express e) = grows_bind (alone_in g e) _ (grows_alone g e) (λ v. still)
@@ -134,6 +146,7 @@ mutual
   grows_other g loop None' = still
   grows_other g loop (Some' _ y) = grows_bind (part g loop y) _ (grows_part g loop y) (λ x. still)
 
+-- the statements of a body
 pub grows_statements : (g : Lookup) (ss : List Stmt) → Grows (statements g ss)
 grows_statements g [] = still
 grows_statements g (x ∷ xs) = grows_bind (stmt g false x.spot x.node) _ (grows_stmt g false x.spot x.node) (λ y. grows_bind (statements g xs) _ (grows_statements g xs) (λ ys. still))

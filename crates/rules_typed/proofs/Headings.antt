@@ -28,6 +28,7 @@ pub record MadeParam (sizes : List ℕ) (structs : List StructType) (s : SlotTyp
   pub slot : is_slot sizes (public_structs structs) s ≡ true
   pub leaf : is_leaf s.ty ≡ true
 
+-- what is found for a parameter
 made_param : (g : Lookup) (structs : List StructType) (sizes : List ℕ) (b : BaseName) (k : ℕ) (a : ParamArray) (s : SlotType) → g.public ≡ public_structs structs → Known g sizes → param_of g b k a ≡ Ok s → MadeParam sizes structs s
 made_param g structs sizes b k a s e h q =
     let z = parted (base_type g (nat_eq k 0) b) _ s q in
@@ -46,6 +47,7 @@ pub record MadeParams (sizes : List ℕ) (structs : List StructType) (ps : List 
   pub leaves : all is_leaf (slot_types ss) ≡ true
   pub count : length ss ≡ length ps
 
+-- what is found for parameters
 made_params : (g : Lookup) (structs : List StructType) (sizes : List ℕ) (earlier : List (List ℕ)) (ps : List Param) (ss : List SlotType) → g.public ≡ public_structs structs → Known g sizes → params g earlier ps ≡ Ok ss → MadeParams sizes structs ps ss
 made_params g structs sizes earlier [] ss e h q = subst (λ ss. MadeParams sizes structs [] ss) (fine_back [] ss q) (record { slots = refl; leaves = refl; count = refl })
 made_params g structs sizes earlier (p ∷ ps) ss e h q =
@@ -57,6 +59,7 @@ made_params g structs sizes earlier (p ∷ ps) ss e h q =
     subst (λ ss. MadeParams sizes structs (p ∷ ps) ss) (fine_back (z.0 ∷ y.0) ss y.2)
     (record { slots = both one.slot rest.slots; leaves = both one.leaf rest.leaves; count = ap (λ n. suc n) rest.count })
 
+-- a result passes the test
 result_good : (g : Lookup) (structs : List StructType) (sizes : List ℕ) (o : Option TypeName) (u : CType) → g.public ≡ public_structs structs → Known g sizes → result_type g o ≡ Ok u → is_result sizes (public_structs structs) u ≡ true
 result_good g structs sizes None u e h q = subst (λ u. is_result sizes (public_structs structs) u ≡ true) (fine_back Nothing u q) refl
 result_good g structs sizes (Some w) u e h q =
@@ -74,6 +77,7 @@ pub record MadeHeading (sizes : List ℕ) (structs : List StructType) (f : Funct
   pub result : is_result sizes (public_structs structs) h.result ≡ true
   pub params : MadeParams sizes structs f.params h.params
 
+-- what is found for a heading
 made_heading : (g : Lookup) (structs : List StructType) (sizes : List ℕ) (f : Function) (h : Heading) → g.public ≡ public_structs structs → Known g sizes → heading g f ≡ Ok h → MadeHeading sizes structs f h
 made_heading g structs sizes f h e k q =
     let z = parted (result_type g f.result) _ h q in
@@ -88,6 +92,7 @@ MadeHeadings sizes structs earlier [] (h ∷ hs) = ⊥
 MadeHeadings sizes structs earlier (f ∷ fs) [] = ⊥
 MadeHeadings sizes structs earlier (f ∷ fs) (h ∷ hs) = MadeHeading sizes structs f h × (may_stand earlier h ≡ true) × MadeHeadings sizes structs (earlier ++ h ∷ []) fs hs
 
+-- what is found for headings
 pub made_headings : (g : Lookup) (ds : List StructDef) (structs : List StructType) (sizes : List ℕ) (earlier : List Heading) (fs : List Function) (hs : List Heading) → g.public ≡ public_structs structs → ((n : ℕ) → Known (record g { above = n }) sizes)
     → headings_from g ds earlier fs ≡ Ok hs → (new : List Heading) × MadeHeadings sizes structs earlier fs new × (hs ≡ earlier ++ new)
 made_headings g ds structs sizes earlier [] hs e k q = ([], tt, sym (fine_back earlier hs q) ∙ sym (append-nil earlier))

@@ -41,14 +41,17 @@ use Rattle.oc_typed.specs.Static as static
 use Rattle.oc_typing.specs.Rules as test
 use Rattle.oc_typing.specs.Typed as typed
 use Rattle.oc_values.specs.Kinds as kinds
-use Rattle.rules_typed.proofs.Bools.{both, either, first, last, leads, left_marked, marked, never, not_back, number_itself, one_of, others, right_marked, second, three, turned}
+use Rattle.rules_typed.proofs.Bools.{both, either, first, last, leads, left_marked, marked, never, not_back, one_of, others, right_marked, second, three, turned}
 use Rattle.rules_typed.proofs.Types.{alike_itself, changes, common_over, compared_kind, held_of, itself, no_add, no_address, no_sum, null_same, only_steps, plain_kind, promoted_is, public_test, step_test, sum_same, value_integer, value_marked}
+use Rattle.rules_typed.proofs.Numbers.{number_itself}
 
+-- a rule that is kept, and what follows
 pub if_needs : (g : Context) (vis : List ℕ) (p : Spot) (r : TypeRule) (b : Bool) (k : Judged Found) → (b ≡ true → Passes g vis k) → Passes g vis (next (needs p r b) (λ _. k))
 unfolding next
 if_needs g vis p r true k f = f refl
 if_needs g vis p r false k f = tt
 
+-- types that a node asks for, and what follows
 pub if_demand : (g : Context) (vis : List ℕ) (p : Spot) (ok : CType → CType → Bool) (a b : CType) (k : Judged Found) → (ok a b ≡ true → Passes g vis k) → Passes g vis (next (demand p ok a b) (λ _. k))
 unfolding next
 if_demand g vis p ok a b k f = at (ok a b) (ok (bare a) (bare b)) f
@@ -58,6 +61,7 @@ if_demand g vis p ok a b k f = at (ok a b) (ok (bare a) (bare b)) f
     at false true f = tt
     at false false f = tt
 
+-- a conversion, and what follows
 pub if_convert : (g : Context) (vis : List ℕ) (u : CType) (e : TExpr) (k : TExpr → Judged Found) → (judging.converts e.ty u ≡ true → Passes g vis (k (converted u e))) → Passes g vis (next (convert u e) k)
 unfolding next
 if_convert g vis u e k f = at (judging.converts e.ty u) (judging.converts (bare e.ty) (bare u)) f
@@ -72,9 +76,11 @@ abbrev pub is_unit_value : TExpr → Bool
 is_unit_value x = typed.is_unit (more_of-TExpr x.spot x.ty x.node end_of-TExpr)
 
 module _ (g : Context) (vis : List ℕ) where
+  -- a type is that of a node
   abbrev pub of_type : CType → Bool
   of_type u = is_type g.sizes g.public u
 
+  -- a type may be that of a node
   pub of_node : (u : CType) → of_type u ≡ true → is_of_node g u ≡ true
   of_node u h = last (is_nothing u || test.is_null u) (of_type u) h
 
@@ -83,6 +89,7 @@ module _ (g : Context) (vis : List ℕ) where
   unfolding hidden-the_row-TExpr-0 hidden
   node_good u e h i c = both (of_node u i) (both c h)
 
+  -- a value where a type is wanted: it stands, or a node converts it
   pub converted_at : (b : Bool) (u : CType) (e : TExpr) → same true e.ty u ≡ b → alone g vis e ≡ true → of_type u ≡ true → judging.converts e.ty u ≡ true → Valued g vis u (if b then e else record { spot = e.spot; ty = u; node = t.Convert e })
   converted_at true u e q h i c = record { ty = same_is e.ty u q; good = h }
   converted_at false u e q h i c = record { ty = refl; good = node_good u e h i (changes g e.ty u (first (is_of_node g e.ty) (expr g vis false e.ty e.node) h) c q) }
@@ -100,9 +107,11 @@ module _ (g : Context) (vis : List ℕ) where
   converts_int (Struct n) l q h i = never h
   converts_int Nothing l q h i = never h
 
+  -- a value is converted to an integer
   pub int_good : (l : IntKind) (q : Bool) (e : TExpr) → alone g vis e ≡ true → is_integer e.ty ≡ true → (not (is_hidden e.ty) || q) ≡ true → Valued g vis (Int l q) (converted (Int l q) e)
   int_good l q e h i m = converted_good (Int l q) e h refl (converts_int e.ty l q i m)
 
+  -- the node of an operator with one operand
   pub unary_node : (p : Spot) (op : OneOp) (y u : CType) (c : TExpr) → of_type y ≡ true → Valued g vis u c → unary op y u ≡ true → alone g vis (record { spot = p; ty = y; node = t.Unary op c }) ≡ true
   unfolding hidden-the_row-TExpr-0 hidden
   unary_node p op y u c i v h = both (of_node y i) (both (subst (λ w. unary op y w ≡ true) (sym v.ty) h) v.good)
@@ -112,6 +121,7 @@ module _ (g : Context) (vis : List ℕ) where
   of_truth true = refl
   of_truth false = refl
 
+  -- `-`, `+`, `~` and `!` have the types that the test asks for
   pub minus_test : (k : IntKind) (o : Bool) → unary Neg (Int (promoted k) o) (Int (promoted k) o) ≡ true
   minus_test k true = both (promoted_is k) (itself (Int (promoted k) true))
   minus_test k false = both (promoted_is k) (itself (Int (promoted k) false))
@@ -133,12 +143,14 @@ module _ (g : Context) (vis : List ℕ) where
   negate_good p op e f h = if_needs g vis p T3 (is_integer e.ty) _ (λ i.
       unary_node p op (Int (promoted (kind_of e.ty)) (is_hidden e.ty)) (Int (promoted (kind_of e.ty)) (is_hidden e.ty)) (converted (Int (promoted (kind_of e.ty)) (is_hidden e.ty)) e) refl (int_good (promoted (kind_of e.ty)) (is_hidden e.ty) e h i (marked (is_hidden e.ty))) (f (kind_of e.ty) (is_hidden e.ty)))
 
+  -- `!e`
   pub deny_good : (p : Spot) (e : TExpr) → alone g vis e ≡ true → Passes g vis (deny p e)
   deny_good p e h = if_needs g vis p T3 (is_integer e.ty) _ (λ i.
       unary_node p Not (truth (is_hidden e.ty)) (Int KBool (is_hidden e.ty)) (converted (Int KBool (is_hidden e.ty)) e) (of_truth (is_hidden e.ty)) (int_good KBool (is_hidden e.ty) e h i (marked (is_hidden e.ty))) (not_test (is_hidden e.ty)))
 
   -- Two parts.
 
+  -- `&&` and `||`
   pub logic_test : (o : Bool) → test.logic (truth o) (Int KBool o) (Int KBool o) ≡ true
   logic_test true = refl
   logic_test false = refl
@@ -153,6 +165,7 @@ module _ (g : Context) (vis : List ℕ) where
       (int_good KBool (is_hidden l.ty || is_hidden r.ty) l h (first (is_integer l.ty) (is_integer r.ty) b) (left_marked (is_hidden l.ty) (is_hidden r.ty)))
       (int_good KBool (is_hidden l.ty || is_hidden r.ty) r i (second (is_integer l.ty) (is_integer r.ty) b) (right_marked (is_hidden l.ty) (is_hidden r.ty))) (logic_test (is_hidden l.ty || is_hidden r.ty)))
 
+  -- the wider of two promoted kinds is promoted
   pub wider_promoted : (k l : IntKind) → is_promoted k ≡ true → is_promoted l ≡ true → is_promoted (kinds.wider k l) ≡ true
   wider_promoted k l h i = at (nat_lt (width k) (width l) || (nat_eq (width k) (width l) && is_signed k))
     where
@@ -168,6 +181,7 @@ module _ (g : Context) (vis : List ℕ) where
   unfolding hidden-the_row-TExpr-0 hidden
   binary_node p op y u v c d i m n h = both (of_node y i) (three (subst (λ w. test.binary op y c.ty w ≡ true) (sym n.ty) (subst (λ w. test.binary op y w v ≡ true) (sym m.ty) h)) m.good n.good)
 
+  -- the type of a result, by whether the operator compares
   pub plain_two : (op : BinaryOp) (k : IntKind) (o : Bool) → judging.is_comparison op ≡ false → static.two_type op k o ≡ Int k o
   plain_two op k true h = ap (λ l. Int l true) (plain_kind op k h).0
   plain_two op k false h = ap (λ l. Int l false) (plain_kind op k h).1
@@ -183,6 +197,7 @@ module _ (g : Context) (vis : List ℕ) where
       at true h = subst (λ w. same true (truth o) w ≡ true) (sym (compared_two op k o h)) (itself (truth o))
       at false h = subst (λ w. same true (Int k o) w ≡ true) (sym (plain_two op k o h)) (itself (Int k o))
 
+  -- the type of a result is a type
   pub result_type : (op : BinaryOp) (k : IntKind) (o : Bool) → of_type (result_of op (Int k o)) ≡ true
   result_type op k o = at (judging.is_comparison op)
     where
@@ -201,9 +216,11 @@ module _ (g : Context) (vis : List ℕ) where
   shift_marks op false true h = refl
   shift_marks op false false h = refl
 
+  -- a shift passes, by any amount
   pub shift_test : (op : BinaryOp) (k m : IntKind) (o q : Bool) → is_shift op ≡ true → test.binary op (result_of op (Int (promoted k) (o || q))) (Int (promoted k) (o || q)) (Int (promoted m) q) ≡ true
   shift_test op k m o q h = three (three (promoted_is k) (promoted_is m) (either (is_shift op) (same_kind (promoted k) (promoted m)) h)) (shift_marks op o q h) (result_two op (promoted k) (o || q))
 
+  -- a mark that is allowed inside of a frozen pointer is so outside
   pub allowed_less : (f p : Bool) → mark_allowed true f p ≡ true → mark_allowed false f p ≡ true
   allowed_less true true h = refl
   allowed_less true false h = never h
@@ -218,6 +235,7 @@ module _ (g : Context) (vis : List ℕ) where
   less_normal (Struct n) h = refl
   less_normal Nothing h = refl
 
+  -- kind and types of an operation, for a shift or not
   abbrev pub kind_with : Bool → TExpr → TExpr → IntKind
   kind_with b l r = if b then promoted (kind_of l.ty) else judging.common (kind_of l.ty) (kind_of r.ty)
 
@@ -227,6 +245,7 @@ module _ (g : Context) (vis : List ℕ) where
   abbrev pub left_type : Bool → TExpr → TExpr → CType
   left_type b l r = Int (kind_with b l r) (is_hidden l.ty || is_hidden r.ty)
 
+  -- an operation on integers
   pub arithmetic_with : (b : Bool) (p : Spot) (op : BinaryOp) (l r : TExpr) → is_shift op ≡ b → alone g vis l ≡ true → alone g vis r ≡ true → both_integers l.ty r.ty ≡ true
       → alone g vis (record { spot = p; ty = result_of op (left_type b l r); node = t.Binary op (converted (left_type b l r) l) (converted (right_with b l r) r) }) ≡ true
   arithmetic_with true p op l r q h i b =
@@ -243,6 +262,7 @@ module _ (g : Context) (vis : List ℕ) where
   pub arithmetic_good : (p : Spot) (op : BinaryOp) (l r : TExpr) → alone g vis l ≡ true → alone g vis r ≡ true → both_integers l.ty r.ty ≡ true → Passes g vis (arithmetic p op l r)
   arithmetic_good p op l r h i b = arithmetic_with (is_shift op) p op l r refl h i b
 
+  -- a value's type is that of a node
   pub node_of : (e : TExpr) → alone g vis e ≡ true → is_of_node g e.ty ≡ true
   node_of e h = first (is_of_node g e.ty) (expr g vis false e.ty e.node) h
 
@@ -252,14 +272,17 @@ module _ (g : Context) (vis : List ℕ) where
       three (first (is_pointer u) (is_pointer y) (first (is_pointer u && is_pointer y) _ a)) (second (is_pointer u) (is_pointer y) (first (is_pointer u && is_pointer y) _ a))
       (turned (judging.is_null u) (judging.is_null y) (same false u y) (test.is_null u) (test.is_null y) (null_same g u h) (null_same g y i) (second (is_pointer u && is_pointer y) (judging.is_null u || judging.is_null y || same false u y) a))
 
+  -- two pointers that are compared
   pub same_node : (p : Spot) (l r : TExpr) (negated : Bool) → alone g vis l ≡ true → alone g vis r ≡ true → test.alike_pointers l.ty r.ty ≡ true → alone g vis (record { spot = p; ty = Int I32 false; node = t.PointerSame l r negated }) ≡ true
   unfolding hidden-the_row-TExpr-0 hidden
   same_node p l r negated h i a = both refl (both (both (both refl a) h) i)
 
+  -- a step of a pointer
   pub step_node : (p : Spot) (l r : TExpr) (back amount_first : Bool) → alone g vis l ≡ true → alone g vis r ≡ true → judging.steps l.ty r.ty ≡ true → not (back && amount_first) ≡ true → alone g vis (record { spot = p; ty = l.ty; node = t.PointerStep l r back amount_first }) ≡ true
   unfolding hidden-the_row-TExpr-0 hidden
   step_node p l r back amount_first h i a f = both (node_of l h) (both (both (both (step_test l.ty r.ty a) f) h) i)
 
+  -- `?:`
   pub choice_node : (p : Spot) (y : CType) (b c d : TExpr) → of_type y ≡ true → test.is_common y ≡ true → test.is_public b.ty ≡ true → alone g vis b ≡ true → Valued g vis y c → Valued g vis y d → alone g vis (record { spot = p; ty = y; node = t.Choose b c d }) ≡ true
   unfolding hidden-the_row-TExpr-0 hidden
   choice_node p y b c d i k m h v w = both (of_node y i) (both (both (both (both (both (both m k) (subst (λ z. same true z y ≡ true) (sym v.ty) (itself y))) (subst (λ z. same true z y ≡ true) (sym w.ty) (itself y))) h) v.good) w.good)
@@ -274,24 +297,29 @@ module _ (g : Context) (vis : List ℕ) where
 
   -- Numbers, places and what is read of them.
 
+  -- the value that a place holds
   pub read_node : (p : Spot) (y : CType) (q : TPlace) → of_type y ≡ true → q.ty ≡ y → test.is_held y ≡ true → typed.place g vis q.ty q.node ≡ true → alone g vis (record { spot = p; ty = y; node = t.Read q }) ≡ true
   unfolding hidden-the_row-TPlace-2 hidden
   read_node p y q i e k h = both (of_node y i) (both (both (both (subst (λ w. same true y w ≡ true) (sym e) (itself y)) (subst (λ w. test.is_held w ≡ true) (sym e) k)) (subst (λ w. of_type w ≡ true) (sym e) i)) h)
 
+  -- an element
   pub index_node : (p : Spot) (e a : TExpr) → alone g vis e ≡ true → alone g vis a ≡ true → judging.leads e.ty ≡ true → test.is_public a.ty ≡ true → typed.place g vis (target e.ty) (place.Index e a) ≡ true
   unfolding hidden-the_row-TExpr-0 hidden
   index_node p e a h i k m = both (both (both (both (first (is_pointer e.ty) (not (is_nothing (target e.ty))) k) (itself (target e.ty))) m) h) i
 
+  -- where a pointer leads
   pub deref_node : (e : TExpr) → alone g vis e ≡ true → judging.leads e.ty ≡ true → typed.place g vis (target e.ty) (place.Deref e) ≡ true
   unfolding hidden-the_row-TExpr-0 hidden
   deref_node e h k = both (both (first (is_pointer e.ty) (not (is_nothing (target e.ty))) k) (itself (target e.ty))) h
 
+  -- what a pointer leads to is in normal form
   pub inner_normal : (f inside : Bool) (s : CType) → is_normal g.public (inside || f) s ≡ true → is_normal g.public inside s ≡ true
   inner_normal false true s h = h
   inner_normal false false s h = h
   inner_normal true true s h = h
   inner_normal true false s h = less_normal s h
 
+  -- what a pointer leads to is a type
   pub target_ok : (f : Bool) (v : _) (s : CType) → of_type (Pointer' f v (more_of-CType s end_of-CType)) ≡ true → of_type s ≡ true
   target_ok f v s h = both (inner_normal f false s (second (mark_allowed false f (holds_public g.public s)) (is_normal g.public f s) (first (mark_allowed false f (holds_public g.public s) && is_normal g.public f s) (is_whole g.sizes s) h))) (second (mark_allowed false f (holds_public g.public s) && is_normal g.public f s) (is_whole g.sizes s) h)
 
@@ -299,6 +327,7 @@ module _ (g : Context) (vis : List ℕ) where
   pub element_ok : (n : ℕ) (v : _) (s : CType) → of_type (Array' n v (more_of-CType s end_of-CType)) ≡ true → of_type (Pointer' false v (more_of-CType s end_of-CType)) ≡ true
   element_ok n v s h = both (first (is_normal g.public false s) (is_sized g.sizes (Array' n v (more_of-CType s end_of-CType)) && is_whole g.sizes s) h) (second (is_sized g.sizes (Array' n v (more_of-CType s end_of-CType))) (is_whole g.sizes s) (second (is_normal g.public false s) (is_sized g.sizes (Array' n v (more_of-CType s end_of-CType)) && is_whole g.sizes s) h))
 
+  -- a cast to an integer converts
   pub cast_converts : (y u : CType) → is_integer u ≡ true → judging.converts y u ≡ true → test.converts y u ≡ true
   cast_converts (Int k true) (Int l true) i c = refl
   cast_converts (Int k true) (Int l false) i c = never c
@@ -312,6 +341,7 @@ module _ (g : Context) (vis : List ℕ) where
   cast_converts y (Struct n) i c = never i
   cast_converts y Nothing i c = never i
 
+  -- the node of a cast
   pub cast_node : (p : Spot) (u : CType) (e : TExpr) → of_type u ≡ true → alone g vis e ≡ true → is_integer u ≡ true → judging.converts e.ty u ≡ true → alone g vis (record { spot = p; ty = u; node = t.Convert e }) ≡ true
   unfolding hidden-the_row-TExpr-0 hidden
   cast_node p u e i h b c = both (of_node u i) (both (cast_converts e.ty u b c) h)
@@ -325,9 +355,11 @@ module _ (g : Context) (vis : List ℕ) where
   target_type (Struct n) h i = never i
   target_type Nothing h i = never i
 
+  -- `*e`
   pub follow_good : (p : Spot) (e : TExpr) → alone g vis e ≡ true → Passes g vis (follow p e)
   follow_good p e h = if_needs g vis p T3 (judging.leads e.ty) _ (λ k. (target_type e.ty (node_of e h) k, deref_node e h k))
 
+  -- `e[a]`
   pub index_good : (p : Spot) (e a : TExpr) → alone g vis e ≡ true → alone g vis a ≡ true → Passes g vis (index p e a)
   index_good p e a h i =
       if_needs g vis p T3 (judging.leads e.ty && is_integer a.ty) _ (λ b.
@@ -336,6 +368,7 @@ module _ (g : Context) (vis : List ℕ) where
 
   -- Operators.
 
+  -- a sum that is no comparison of pointers steps the one that is a pointer
   pub left_step : (op : BinaryOp) (u y : CType) → is_pointer u ≡ true → judging.is_equality op ≡ false → (((judging.is_add op || judging.is_minus op) && judging.steps u y) || (judging.is_add op && judging.steps y u) || (judging.is_equality op && judging.alike_pointers u y)) ≡ true → judging.steps u y ≡ true
   left_step op u y h e k =
       one_of ((judging.is_add op || judging.is_minus op) && judging.steps u y) (judging.is_add op && judging.steps y u) (judging.is_equality op && judging.alike_pointers u y) (λ a. second (judging.is_add op || judging.is_minus op) (judging.steps u y) a)
@@ -347,11 +380,13 @@ module _ (g : Context) (vis : List ℕ) where
       (λ a. never (sym h ∙ first (is_pointer u) (not (is_nothing (target u))) (first (judging.leads u) (judging.is_public y) (second (judging.is_add op || judging.is_minus op) (judging.steps u y) a))))
       (λ b. second (judging.is_add op) (judging.steps y u) b) (λ c. never (sym e ∙ first (judging.is_equality op) (judging.alike_pointers u y) c)) k
 
+  -- what asks whether pointers are the same takes two that are alike
   pub compared : (op : BinaryOp) (u y : CType) → judging.is_equality op ≡ true → (((judging.is_add op || judging.is_minus op) && judging.steps u y) || (judging.is_add op && judging.steps y u) || (judging.is_equality op && judging.alike_pointers u y)) ≡ true → judging.alike_pointers u y ≡ true
   compared op u y e k =
       one_of ((judging.is_add op || judging.is_minus op) && judging.steps u y) (judging.is_add op && judging.steps y u) (judging.is_equality op && judging.alike_pointers u y)
       (λ a. never (sym (no_sum op e) ∙ first (judging.is_add op || judging.is_minus op) (judging.steps u y) a)) (λ b. never (sym (no_add op e) ∙ first (judging.is_add op) (judging.steps y u) b)) (λ c. second (judging.is_equality op) (judging.alike_pointers u y) c) k
 
+  -- an operator whose operands it takes
   pub operated_good : (p : Spot) (op : BinaryOp) (l r : TExpr) → alone g vis l ≡ true → alone g vis r ≡ true → judging.takes op l.ty r.ty ≡ true → Passes g vis (operated p op l r)
   operated_good p op l r h i k = at (both_integers l.ty r.ty) refl
     where
@@ -367,24 +402,29 @@ module _ (g : Context) (vis : List ℕ) where
       at true q = arithmetic_good p op l r h i q
       at false q = rest (judging.is_equality op) refl (others (both_integers l.ty r.ty) ((judging.is_add op || judging.is_minus op) && judging.steps l.ty r.ty) (judging.is_add op && judging.steps r.ty l.ty) (judging.is_equality op && judging.alike_pointers l.ty r.ty) q k)
 
+  -- an operator with two operands
   pub operate_good : (p : Spot) (op : BinaryOp) (l r : TExpr) → alone g vis l ≡ true → alone g vis r ≡ true → Passes g vis (operate p op l r)
   operate_good p op l r h i = if_demand g vis p (judging.takes op) l.ty r.ty _ (λ k. operated_good p op l r h i k)
 
   -- Assignments.
 
+  -- the node of an assignment
   pub assign_node : (p : Spot) (q : TPlace) (x : TExpr) → of_type q.ty ≡ true → typed.place g vis q.ty q.node ≡ true → test.is_held q.ty ≡ true → Valued g vis q.ty x → alone g vis (record { spot = p; ty = q.ty; node = t.Assign q x }) ≡ true
   unfolding hidden-the_row-TExpr-0 hidden-the_row-TExpr-1 hidden-the_row-TPlace-2 hidden
   assign_node p q x i k h v = both (of_node q.ty i) (both (both (both (both (both (itself q.ty) (subst (λ w. same true w q.ty ≡ true) (sym v.ty) (itself q.ty))) h) i) k) v.good)
 
+  -- `l = r`
   pub assigned_good : (p : Spot) (f : Found) (v : TExpr) → Good g vis f → alone g vis v ≡ true → Passes g vis (assigned p f v)
   unfolding next
   assigned_good p (Value e) v h i = tt
   assigned_good p (Place q) v h i = if_convert g vis q.ty v _ (λ c. assign_node p q (converted q.ty v) h.0 h.1 (held_of v.ty q.ty c) (converted_good q.ty v i h.0 c))
 
+  -- the node of an update
   pub update_node : (p : Spot) (op : BinaryOp) (q : TPlace) (x : TExpr) (old : Bool) → of_type q.ty ≡ true → typed.place g vis q.ty q.node ≡ true → test.update op q.ty x.ty ≡ true → alone g vis x ≡ true → (not old || is_unit_value x) ≡ true → alone g vis (record { spot = p; ty = q.ty; node = t.Update op q x old }) ≡ true
   unfolding hidden-the_row-TExpr-0 hidden-the_row-TExpr-1 hidden-the_row-TPlace-2 hidden
   update_node p op q x old i k h v u = both (of_node q.ty i) (both (both (both (both (both (itself q.ty) h) i) k) v) u)
 
+  -- the value that an update takes: a shift, another operator, a step
   pub shift_update : (op : BinaryOp) (u : CType) (m : IntKind) (q : Bool) → not (judging.is_comparison op) ≡ true → is_integer u ≡ true → is_shift op ≡ true → (not q || is_hidden u) ≡ true → test.update op u (Int (promoted m) q) ≡ true
   shift_update op (Int k o) m q n i h f = both (both (both n (promoted_is m)) (marks_at o q f)) (either (is_shift op) _ h)
     where
@@ -421,6 +461,7 @@ module _ (g : Context) (vis : List ℕ) where
     good : alone g vis x ≡ true
     fits : test.update op u x.ty ≡ true
 
+  -- it is converted as its operator takes it
   pub works_at : (b c : Bool) (op : BinaryOp) (u : CType) (v : TExpr) → is_integer u ≡ b → is_shift op ≡ c → not (judging.is_comparison op) ≡ true → alone g vis v ≡ true → judging.takes_update op u v.ty ≡ true
       → Works op u (if not b then v else if c then converted (Int (promoted (kind_of v.ty)) (is_hidden v.ty)) v else converted (Int (judging.common (kind_of u) (kind_of v.ty)) (is_hidden u)) v)
   works_at true true op u v p s n h k =
@@ -433,6 +474,7 @@ module _ (g : Context) (vis : List ℕ) where
       let z = only_steps op u v.ty p k in
       record { good = h; fits = step_update op u v.ty (first (judging.leads u) (judging.is_public v.ty) (second (judging.is_add op || judging.is_minus op) (judging.steps u v.ty) z)) (second (judging.leads u) (judging.is_public v.ty) (second (judging.is_add op || judging.is_minus op) (judging.steps u v.ty) z)) (first (judging.is_add op || judging.is_minus op) (judging.steps u v.ty) z) }
 
+  -- a compound assignment
   pub updated_good : (p : Spot) (op : BinaryOp) (f : Found) (v : TExpr) → not (judging.is_comparison op) ≡ true → Good g vis f → alone g vis v ≡ true → Passes g vis (updated p op f v)
   unfolding next
   updated_good p op (Value e) v n h i = if_demand g vis p (judging.takes_update op) e.ty v.ty _ (λ k. tt)
@@ -440,6 +482,7 @@ module _ (g : Context) (vis : List ℕ) where
       let w = works_at (is_integer q.ty) (is_shift op) op q.ty v refl refl n i k in
       update_node p op q (working op q.ty v) false h.0 h.1 w.fits w.good refl)
 
+  -- `++` and `--` add and subtract
   pub no_comparison : (up : Bool) → not (judging.is_comparison (sum_op up)) ≡ true
   no_comparison true = refl
   no_comparison false = refl
@@ -457,6 +500,7 @@ module _ (g : Context) (vis : List ℕ) where
   abbrev pub unit_at : Spot → TExpr
   unit_at p = record { spot = p; ty = Int I32 false; node = t.Number (pos 1) }
 
+  -- it stays the number 1 where it is converted
   pub unit_converted : (b : Bool) (p : Spot) (u : CType) → is_unit_value (if b then unit_at p else record { spot = p; ty = u; node = t.Convert (unit_at p) }) ≡ true
   unfolding hidden-the_row-TExpr-0 hidden
   unit_converted true p u = refl
@@ -470,6 +514,7 @@ module _ (g : Context) (vis : List ℕ) where
   bump_unit p true u = unit_works (is_integer u) (same true (Int I32 false) (Int (judging.common (kind_of u) I32) (is_hidden u))) p (Int (judging.common (kind_of u) I32) (is_hidden u))
   bump_unit p false u = unit_works (is_integer u) (same true (Int I32 false) (Int (judging.common (kind_of u) I32) (is_hidden u))) p (Int (judging.common (kind_of u) I32) (is_hidden u))
 
+  -- `++` and `--`
   pub bump_good : (p : Spot) (up before : Bool) (f : Found) → Good g vis f → Passes g vis (bump p up before f)
   unfolding next
   bump_good p up before (Value e) h = if_needs g vis p T3 (is_integer e.ty || judging.leads e.ty) _ (λ k. tt)
@@ -479,13 +524,16 @@ module _ (g : Context) (vis : List ℕ) where
 
   -- Numbers, names, addresses, fields and casts.
 
+  -- a number
   pub number_good : (p : Spot) (l : Literal) → Passes g vis (number p l)
   number_good p l = both refl (second (is_literal_kind l.kind) (holds l.kind l.value) l.of_kind)
 
+  -- a name
   pub variable_good : (p : Spot) (o : Option Seen) → ((s : Seen) → o ≡ Some s → GoodVariable g vis s) → Passes g vis (variable p o)
   variable_good p None f = tt
   variable_good p (Some s) f = let h = f s refl in (h.ty, both h.visible h.slot)
 
+  -- a type that is no array is held as a whole
   pub held_here : (u : CType) → judging.is_array u ≡ false → of_type u ≡ true → test.is_held u ≡ true
   held_here (Int k o) a h = refl
   held_here (Pointer' f v s) a h = refl
@@ -493,6 +541,7 @@ module _ (g : Context) (vis : List ℕ) where
   held_here (Array' n v s) a h = never (sym a)
   held_here Nothing a h = h
 
+  -- the address of the first element
   pub decay_node : (p : Spot) (q : TPlace) (u : CType) → q.ty ≡ u → judging.is_array u ≡ true → of_type q.ty ≡ true → typed.place g vis q.ty q.node ≡ true → alone g vis (record { spot = p; ty = Pointer false (judging.element u); node = t.Decay q }) ≡ true
   unfolding hidden-the_row-TPlace-2 hidden-the_row-CType-0 hidden
   decay_node p q (Array' n v (more_of-CType s end_of-CType)) e a i h =
@@ -502,6 +551,7 @@ module _ (g : Context) (vis : List ℕ) where
   decay_node p q (Struct n) e a i h = never a
   decay_node p q Nothing e a i h = never a
 
+  -- the value of what is found
   pub value_good : (f : Found) → Good g vis f → alone g vis (value_of f) ≡ true
   value_good (Value e) h = h
   value_good (Place q) h = at (judging.is_array q.ty) refl
@@ -510,23 +560,28 @@ module _ (g : Context) (vis : List ℕ) where
       at true a = decay_node q.spot q q.ty refl a h.0 h.1
       at false a = read_node q.spot q.ty q h.0 refl (held_here q.ty a h.0) h.1
 
+  -- the node of an address
   pub address_node : (p : Spot) (q : TPlace) → of_type q.ty ≡ true → typed.place g vis q.ty q.node ≡ true → alone g vis (record { spot = p; ty = Pointer false q.ty; node = t.AddressOf q }) ≡ true
   unfolding hidden-the_row-TPlace-2 hidden-the_row-CType-0 hidden
   address_node p q i h = both (last (is_nothing q.ty) (of_type (Pointer false q.ty)) i) (both (both (itself q.ty) i) h)
 
+  -- `&e`
   pub refer_good : (p : Spot) (f : Found) → Good g vis f → Passes g vis (refer p f)
   unfolding next
   refer_good p (Value e) h = tt
   refer_good p (Place q) h = address_node p q h.0 h.1
 
+  -- the place of a field
   pub field_node : (q : TPlace) (n : ℕ) (u : CType) → of_type q.ty ≡ true → typed.place g vis q.ty q.node ≡ true → test.field g.structs q.ty n u ≡ true → typed.place g vis u (place.Field q n) ≡ true
   unfolding hidden-the_row-TPlace-2 hidden
   field_node q n u i h f = both (both f i) h
 
+  -- a field that is found
   pub field_good : (p : Spot) (q : TPlace) (o : Option FieldType) → GoodField g o q.ty → of_type q.ty ≡ true → typed.place g vis q.ty q.node ≡ true → Passes g vis (field_at p q o)
   field_good p q None f i h = tt
   field_good p q (Some x) f i h = let z = f x refl in (z.0, field_node q x.offset x.ty i h z.1)
 
+  -- a cast
   pub cast_good : (p : Spot) (u : CType) (e : TExpr) → of_type u ≡ true → alone g vis e ≡ true → Passes g vis (cast p u e)
   cast_good p u e i h =
       if_needs g vis p T3 (is_integer u) _ (λ b.

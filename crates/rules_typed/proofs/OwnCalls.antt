@@ -56,16 +56,20 @@ module _ (g : Context) (vis : List ℕ) where
     bytes_of : {u : CType} → of_type g vis u ≡ true → Exact want.Bytes (calls.given_size u)
     times : {u : CType} {v : TExpr} → of_type g vis u ≡ true → alone g vis v ≡ true → test.is_public v.ty ≡ true → Exact want.Bytes (record { args = v ∷ []; party = 0; of = u; misplaced = false; count = 1 })
 
+  -- what arguments give where these are wanted
   pub data ExactAll : List Want → Given → Type 0 where
     exact_none : ExactAll [] calls.given_none
     exact_more : {w : Want} {ws : List Want} {b c : Given} → Exact w b → ExactAll ws c → ExactAll (w ∷ ws) (calls.joined b c)
 
+  -- an argument that is in place gives what is wanted
   abbrev pub Told1 : Want → Given → Type 0
   Told1 w b = (b.count ≡ 1) × (b.misplaced ≡ false → Exact w b)
 
+  -- as many arguments as are wanted, each in place, give what is wanted
   abbrev pub Told : List Want → Given → Type 0
   Told ws x = nat_eq x.count (length ws) ≡ true → x.misplaced ≡ false → ExactAll ws x
 
+  -- types, a rule and a conversion, and what follows
   pub if_given : (P : Given → Type 0) (p : Spot) (ok : CType → CType → Bool) (a b : CType) (k : Judged Given) → (ok a b ≡ true → IfOk k P) → IfOk (next (judging.demand p ok a b) (λ _. k)) P
   unfolding next
   if_given P p ok a b k f = at (ok a b) (ok (judging.bare a) (judging.bare b)) f
@@ -110,6 +114,7 @@ module _ (g : Context) (vis : List ℕ) where
   hides (Struct n) k h = never h
   hides Nothing k h = never h
 
+  -- what a feed takes
   pub fed_node : (k : IntKind) (v : TExpr) → alone g vis v ≡ true → test.is_public v.ty ≡ true → Exact (want.Word k) (calls.given_value (record { spot = v.spot; ty = Int k true; node = t.Convert v }))
   unfolding hidden-the_row-TExpr-0 hidden
   fed_node k v h i = word refl (both (hides v.ty k i) h) (both (itself (Int k true)) i)
@@ -117,6 +122,7 @@ module _ (g : Context) (vis : List ℕ) where
   pub fed_value : (k : IntKind) (v : TExpr) → alone g vis v ≡ true → test.is_public v.ty ≡ true → Exact (want.Word k) (calls.given_value (converted (Int k true) v))
   fed_value k v h i = subst (λ b. Exact (want.Word k) (calls.given_value (if b then v else record { spot = v.spot; ty = Int k true; node = t.Convert v }))) (sym (not_same v.ty k i)) (fed_node k v h i)
 
+  -- a party is 1 or 2
   pub party_is : (o : Option ℕ) → nat_lt 0 (calls.party_of o) ≡ true → test.is_party (calls.party_of o) ≡ true
   party_is None h = never h
   party_is (Some n) h = at (nat_eq n 1 || nat_eq n 2) refl h
@@ -125,10 +131,12 @@ module _ (g : Context) (vis : List ℕ) where
       at true q h = q
       at false q h = never h
 
+  -- the type of where a reveal writes
   pub aim_type : (k : IntKind) → of_type g vis (Pointer false (Int k false)) ≡ true
   unfolding hidden-the_row-CType-0 hidden
   aim_type k = refl
 
+  -- a value where something is wanted
   pub as_good : (w : Want) (v : TExpr) → alone g vis v ≡ true → IfOk (calls.given_as w v) (Told1 w)
   as_good want.Index v h = if_given (Told1 want.Index) v.spot judging.is_counted v.ty v.ty _ (λ c. (refl, λ m. index h (public_test v.ty c)))
   as_good (want.Word k) v h = if_given (Told1 (want.Word k)) v.spot judging.is_counted v.ty v.ty _ (λ c. (refl, λ m. fed_value k v h (public_test v.ty c)))
@@ -147,6 +155,7 @@ module _ (g : Context) (vis : List ℕ) where
 
   -- Their nodes.
 
+  -- the node of a call
   pub builtin_node : (p : Spot) (which : Builtin) (y : CType) (vs : List TExpr) → is_of_node g y ≡ true → not (typed.is_private which) ≡ true → test.builtin g.sizes y (typed.fed_by which (row_of vs)) which (types_in vs) ≡ true → typed.exprs g vis (typed.is_feed which) (row_of vs) ≡ true → alone g vis (record { spot = p; ty = y; node = t.Builtin which vs }) ≡ true
   unfolding hidden-the_row-TExpr-0 hidden-the_row-TExpr-1 hidden-the_row-TPlace-2 hidden
   builtin_node p which y vs i n b e = both i (both (both n (subst (λ ts. test.builtin g.sizes y (typed.fed_by which (row_of vs)) which ts ≡ true) (sym (types_row vs)) b)) e)
@@ -154,6 +163,7 @@ module _ (g : Context) (vis : List ℕ) where
   pub plain_node : (p : Spot) (which : Builtin) (y : CType) (vs : List TExpr) → is_of_node g y ≡ true → not (typed.is_private which) ≡ true → typed.is_feed which ≡ false → test.builtin g.sizes y (typed.fed_by which (row_of vs)) which (types_in vs) ≡ true → AllAlone g vis vs → alone g vis (record { spot = p; ty = y; node = t.Builtin which vs }) ≡ true
   plain_node p which y vs i n f b h = builtin_node p which y vs i n b (subst (λ c. typed.exprs g vis c (row_of vs) ≡ true) (sym f) (exprs_row g vis vs h))
 
+  -- a feed and the `ocPrivate` in it
   pub feed_node : (p : Spot) (k : IntKind) (n : ℕ) (v : TExpr) → test.is_shown k ≡ true → test.is_party n ≡ true → is_of_node g v.ty ≡ true → typed.expr g vis true v.ty v.node ≡ true → typed.is_fed k v.ty v.node ≡ true → alone g vis (record { spot = p; ty = Int k true; node = t.Builtin (own.Feed k n) (v ∷ []) }) ≡ true
   unfolding hidden-the_row-TExpr-0 hidden-the_row-TExpr-1 hidden-the_row-TPlace-2 hidden
   feed_node p k n v s q i e f = builtin_node p (own.Feed k n) (Int k true) (v ∷ []) refl refl (both (three (itself (Int k true)) s q) (both f refl)) (three i e refl)
@@ -162,10 +172,12 @@ module _ (g : Context) (vis : List ℕ) where
   unfolding hidden-the_row-TExpr-0 hidden-the_row-TExpr-1 hidden-the_row-TPlace-2 hidden
   private_node p k v h i = word (node_of g vis v h) (both (both i (itself v.ty)) (both h refl)) i
 
+  -- where a reveal writes is an address
   pub aim_address : (k : IntKind) → test.address (Pointer false (Int k false)) (Int k false) ≡ true
   unfolding hidden-the_row-CType-0 hidden
   aim_address k = itself (Int k false)
 
+  -- what is whole has a size
   pub whole_sized : (u : CType) → test.is_whole g.sizes u ≡ true → test.is_sized g.sizes u ≡ true
   whole_sized (Int k o) h = refl
   whole_sized (Pointer' f v s) h = refl
@@ -173,6 +185,7 @@ module _ (g : Context) (vis : List ℕ) where
   whole_sized (Struct n) h = h
   whole_sized Nothing h = never h
 
+  -- memory for a type
   pub memory_type : (u : CType) → of_type g vis u ≡ true → is_of_node g (Pointer false u) ≡ true
   unfolding hidden-the_row-CType-0 hidden
   memory_type u h = last (is_nothing u) (of_type g vis (Pointer false u)) h
@@ -181,6 +194,7 @@ module _ (g : Context) (vis : List ℕ) where
   unfolding hidden-the_row-CType-0 hidden
   memory_made u h = whole_sized u (second (is_normal g.public false u) (test.is_whole g.sizes u) h)
 
+  -- a type from one of two arguments
   pub either_same : (u : CType) → calls.either_type u Nothing ≡ u
   either_same (Int k o) = refl
   either_same (Pointer' f v s) = refl
@@ -188,17 +202,20 @@ module _ (g : Context) (vis : List ℕ) where
   either_same (Struct n) = refl
   either_same Nothing = refl
 
+  -- sums with nothing
   pub plus_none : (n : ℕ) → n + 0 ≡ n
   plus_none n = omega arith
 
   pub none_plus : (n : ℕ) → 0 + (n + 0) ≡ n
   none_plus n = omega arith
 
+  -- whether feeds and reveals have a call of this kind
   abbrev pub shown : OwnCall → Bool
   shown (call.Feed k) = test.is_shown k
   shown (call.Reveal k) = test.is_shown k
   shown _ = true
 
+  -- each call, of what its arguments give
   pub own_at : (c : OwnCall) (x : Given) → ExactAll (calls.wants c) x → shown c ≡ true → not (calls.is_private c) ≡ true → (p : Spot) → alone g vis (record { spot = p; ty = calls.own_type c x; node = t.Builtin (calls.own_node c x) x.args }) ≡ true
   own_at call.Private x e s z p = never z
   own_at (call.Feed k) _ (exact_more (word {v = v} i e f) (exact_more (party {n = n} q) exact_none)) s z p = feed_node p k (0 + (n + 0)) v s (subst (λ m. test.is_party m ≡ true) (sym (none_plus n)) q) i e f
@@ -218,6 +235,7 @@ module _ (g : Context) (vis : List ℕ) where
       subst (λ w. alone g vis (record { spot = p; ty = Pointer false w; node = t.Builtin own.Malloc (v ∷ []) }) ≡ true) (sym (either_same u)) (plain_node p own.Malloc (Pointer false u) (v ∷ []) (memory_type u o) refl refl (both (memory_made u o) i) (h, tt))
   own_at call.Free _ (exact_more (address_of {v = v} h a) exact_none) s z p = plain_node p own.Free Nothing (v ∷ []) refl refl refl a (h, tt)
 
+  -- a call whose arguments are judged
   pub own_called_good : (a : Bool) (p : Spot) (c : OwnCall) (x : Given) → Told (calls.wants c) x → shown c ≡ true → Passes g vis (calls.own_called a p c x)
   own_called_good a p c x t s =
       if_needs g vis p T3 (a || calls.has_value c) _ (λ _.
@@ -227,6 +245,7 @@ module _ (g : Context) (vis : List ℕ) where
 
   -- Several arguments.
 
+  -- an argument too many
   pub no_extra : (n : ℕ) → nat_eq (1 + n) 0 ≡ true → ⊥
   no_extra n h = grind arith
 
@@ -236,28 +255,34 @@ module _ (g : Context) (vis : List ℕ) where
   extra_good (Ok v) (Err b) = tt
   extra_good (Err b) rest = tt
 
+  -- one argument more
   pub counted : (m n l : ℕ) → m ≡ 1 → nat_eq (m + n) (suc l) ≡ true → nat_eq n l ≡ true
   counted m n l h q = grind arith
 
+  -- arguments one after another
   pub more_good : (w : Want) (ws : List Want) (m rest : Judged Given) → IfOk m (Told1 w) → IfOk rest (Told ws) → IfOk (next m (λ a. next rest (λ b. Ok (calls.joined a b)))) (Told (w ∷ ws))
   unfolding next
   more_good w ws (Ok a) (Ok b) h i = λ q n. exact_more (h.1 (left_false a.misplaced b.misplaced n)) (i (counted a.count b.count (length ws) h.0 q) (right_false a.misplaced b.misplaced n))
   more_good w ws (Ok a) (Err b) h i = tt
   more_good w ws (Err b) rest h i = tt
 
+  -- an argument with a value
   pub value_given : (w : Want) (m : Judged Found) → Passes g vis m → IfOk (next (valued m) (λ v. calls.given_as w v)) (Told1 w)
   unfolding next
   value_given w (Ok f) h = as_good w (value_of f) (value_good g vis f h)
   value_given w (Err b) h = tt
 
+  -- what breaks a rule, or may be fed at any kind
   abbrev pub IsFed : Judged TExpr → Type 0
   IsFed m = IfOk m (λ v. (k : IntKind) → Exact (want.Word k) (calls.given_value v))
 
+  -- an `ocPrivate` as an argument
   pub private_given : (k : IntKind) (m : Judged TExpr) → IsFed m → IfOk (next m (λ v. Ok (calls.given_value v))) (Told1 (want.Word k))
   unfolding next
   private_given k (Ok v) h = (refl, λ n. h k)
   private_given k (Err b) h = tt
 
+  -- an `ocPrivate` with one argument, with more, with none
   pub private_of : (p : Spot) (m : Judged TExpr) → IfOk m (λ e. alone g vis e ≡ true) → IsFed (next (next (next m (λ v. calls.given_as want.Index v)) (λ a. next (Ok calls.given_none) (λ b. Ok (calls.joined a b)))) (λ a. calls.private_word p a))
   unfolding next
   private_of p (Err b) h = tt
@@ -268,6 +293,7 @@ module _ (g : Context) (vis : List ℕ) where
       at false true f = tt
       at false false f = tt
 
+  -- counts of arguments
   pub two_many : (m n : ℕ) → m ≡ 1 → nat_eq (m + (1 + n)) 1 ≡ true → ⊥
   two_many m n h q = grind arith
 
@@ -282,10 +308,12 @@ module _ (g : Context) (vis : List ℕ) where
       at true f = absurd (f refl)
       at false f = tt
 
+  -- without arguments
   pub none_given : (p : Spot) → IsFed (next (Ok calls.given_none) (λ a. calls.private_word p a))
   unfolding next
   none_given p = tt
 
+  -- an argument counts as one
   pub only_count : (w : Want) (m : Judged Given) → IfOk m (Told1 w) → IfOk m (λ a. a.count ≡ 1)
   only_count w (Ok a) h = h.0
   only_count w (Err b) h = tt
@@ -296,6 +324,7 @@ AllShown g vis [] = Unit {0}
 AllShown g vis (c ∷ cs) = (shown g vis c.1 ≡ true) × AllShown g vis cs
 
 module _ (g : Context) (vis : List ℕ) where
+  -- each call of the table is one that is there
   pub shown_in : (cs : List (List ℕ × OwnCall)) (x : List ℕ) (c : OwnCall) → AllShown g vis cs → calls.own_call_in cs x ≡ Some c → shown g vis c ≡ true
   shown_in [] x c h q = absurd (none_some q)
   shown_in (d ∷ cs) x c h q = at (lookup.same_name d.0 x) q (λ p. shown_in cs x c h.1 p)
@@ -307,6 +336,7 @@ module _ (g : Context) (vis : List ℕ) where
   pub own_shown : (x : List ℕ) (c : OwnCall) → calls.own_call x ≡ Some c → shown g vis c ≡ true
   own_shown x c q = shown_in calls.own_calls x c (refl, (refl, (refl, (refl, (refl, (refl, (refl, (refl, (refl, (refl, (refl, (refl, (refl, (refl, (refl, (refl, (refl, (refl, (refl, tt))))))))))))))))))) q
 
+  -- what a called name is
   pub own_same : {a b : OwnCall} → Own a ≡ Own b → a ≡ b
   own_same q = (cc)
 
@@ -322,6 +352,7 @@ module _ (g : Context) (vis : List ℕ) where
   pub no_known : {n : ℕ} {h : Heading} {c : OwnCall} → Known n h ≡ Own c → ⊥
   no_known q = (cc)
 
+  -- so is the one that a name means
   pub of_own : (c k : OwnCall) → calls.called_own c ≡ Own k → shown g vis c ≡ true → shown g vis k ≡ true
   of_own call.Printf k q h = absurd (no_print q)
   of_own call.Private k q h = subst (λ c. shown g vis c ≡ true) (own_same q) h

@@ -23,21 +23,25 @@ use Rattle.oc_typing.specs.Rules as test
 use Rattle.oc_typed.specs.declared.typed.PrintPiece.TheVariants as piece
 use Rattle.oc_typed.specs.declared.typed.Builtin.TheVariants as own
 use Rattle.type_rules.specs.Prints as prints
-use Rattle.rules_typed.proofs.Bools.{at_most, both, first, number_is, second, three}
+use Rattle.rules_typed.proofs.Bools.{both, first, second, three}
 use Rattle.rules_typed.proofs.Types.{itself}
 use Rattle.rules_typed.proofs.Nodes.{converted_good, if_needs}
 use Rattle.rules_typed.proofs.Arguments.{AllAlone, Matched, all_alone, exprs_row, matched_types, types_in, types_row}
+use Rattle.rules_typed.proofs.Numbers.{at_most, number_is}
 
+-- public integers of these kinds
 abbrev pub public_of : List IntKind → List CType
 public_of [] = []
 public_of (k ∷ ks) = Int k false ∷ public_of ks
 
+-- each number of a format has a promoted kind
 abbrev pub AllPromoted : List PrintPiece → Type 0
 AllPromoted [] = Unit {0}
 AllPromoted (piece.Text bytes ∷ ps) = AllPromoted ps
 AllPromoted (piece.Decimal k ∷ ps) = (test.is_promoted k ≡ true) × AllPromoted ps
 AllPromoted (piece.Byte ∷ ps) = AllPromoted ps
 
+-- a byte of text more
 pub promoted_before : (b : ℕ) (ps : List PrintPiece) → AllPromoted ps → AllPromoted (prints.byte_before b ps)
 promoted_before b [] h = tt
 promoted_before b (piece.Text bytes ∷ ps) h = h
@@ -55,18 +59,21 @@ pub record Fine (n : ℕ) (f : prints.Format) : Type 0 where
   kinds : AllPromoted f.pieces
   bytes : nat_le (test.text_bytes f.pieces) n ≡ true
 
+-- sums of lengths
 pub one_longer : (a n : ℕ) → nat_le a n ≡ true → nat_le a (suc n) ≡ true
 one_longer a n h = grind arith
 
 pub both_longer : (a n : ℕ) → nat_le a n ≡ true → nat_le (suc a) (suc n) ≡ true
 both_longer a n h = grind arith
 
+-- a format stays fine in a longer text
 pub longer : (n : ℕ) (f : prints.Format) → Fine n f → Fine (suc n) f
 longer n f h = record { kinds = h.kinds; bytes = one_longer (test.text_bytes f.pieces) n h.bytes }
 
 pub with_byte_fine : (b n : ℕ) (f : prints.Format) → Fine n f → Fine (suc n) (prints.with_byte b f)
 with_byte_fine b n f h = record { kinds = promoted_before b f.pieces h.kinds; bytes = subst (λ m. nat_le m (suc n) ≡ true) (sym (bytes_before b f.pieces)) (both_longer (test.text_bytes f.pieces) n h.bytes) }
 
+-- each step of a format
 pub either_format : (n : ℕ) (b : Bool) (x y : prints.Format) → Fine n x → Fine n y → Fine n (if b then x else y)
 either_format n true x y h i = h
 either_format n false x y h i = i
@@ -83,6 +90,7 @@ decimal_fine k n f q h = longer n (prints.with_piece (piece.Decimal k) f) (recor
 pub byte_fine : (n : ℕ) (f : prints.Format) → Fine n f → Fine (suc n) (prints.with_piece piece.Byte f)
 byte_fine n f h = longer n (prints.with_piece piece.Byte f) (record { kinds = h.kinds; bytes = h.bytes })
 
+-- a format that is read from a text is fine
 pub format_fine : (bs : List ℕ) (s : prints.Part) → Fine (length bs) (prints.format s bs)
 format_fine [] prints.Outside = none_fine 0 true
 format_fine [] prints.Percent = none_fine 0 false
@@ -107,12 +115,14 @@ pub text_fine : (o : Option (List ℕ)) → Fine (prints.text_length o) (prints.
 text_fine None = none_fine 0 true
 text_fine (Some text) = format_fine text prints.Outside
 
+-- the values that a format asks for are those of its test
 pub formats_asked : (ps : List PrintPiece) → AllPromoted ps → test.formats ps (public_of (prints.asked ps)) ≡ true
 formats_asked [] h = refl
 formats_asked (piece.Text bytes ∷ ps) h = formats_asked ps h
 formats_asked (piece.Decimal k ∷ ps) h = three h.0 (itself (Int k false)) (formats_asked ps h.1)
 formats_asked (piece.Byte ∷ ps) h = both (itself (Int I32 false)) (formats_asked ps h)
 
+-- lengths of lists of types
 pub length_public : (ks : List IntKind) → length ks ≡ length (public_of ks)
 length_public [] = refl
 length_public (k ∷ ks) = ap (λ n. suc n) (length_public ks)
@@ -122,10 +132,12 @@ length_in [] = refl
 length_in (e ∷ es) = ap (λ n. suc n) (length_in es)
 
 module _ (g : Context) (vis : List ℕ) where
+  -- the node of a print
   pub print_node : (p : Spot) (ps : List PrintPiece) (vs : List TExpr) → test.formats ps (types_in vs) ≡ true → nat_le (test.text_bytes ps) 4000 ≡ true → nat_le (length (types_in vs)) 64 ≡ true → AllAlone g vis vs → alone g vis (record { spot = p; ty = Nothing; node = t.Builtin (own.Print ps) vs }) ≡ true
   unfolding hidden-the_row-TExpr-0 hidden-the_row-TExpr-1 hidden-the_row-TPlace-2 hidden
   print_node p ps vs f b l h = both refl (three refl (subst (λ ts. test.builtin g.sizes Nothing false (own.Print ps) ts ≡ true) (sym (types_row vs)) (both (both f b) l)) (exprs_row g vis vs h))
 
+  -- a print, of values that its format asks for
   pub print_good : (a : Bool) (p : Spot) (any : Bool) (text : Option (List ℕ)) (x : prints.Printed) → Matched g vis (public_of (prints.asked (prints.format_of text).pieces)) x.args → Passes g vis (prints.print_called a p any text x)
   print_good a p any text x h =
       if_needs g vis p T3 a _ (λ _.
@@ -141,9 +153,11 @@ module _ (g : Context) (vis : List ℕ) where
       (subst (λ n. nat_le n 64 ≡ true) (sym (length_in x.args)) few)
       (all_alone g vis (public_of (prints.asked (prints.format_of text).pieces)) x.args h))))
 
+  -- values of a print break a rule, or match what is asked for
   abbrev pub GivesPrinted : List IntKind → Judged prints.Printed → Type 0
   GivesPrinted ks m = IfOk m (λ a. Matched g vis (public_of ks) a.args)
 
+  -- a value that nothing asks for, and one that something does
   pub printed_more : (m : Judged TExpr) (rest : Judged prints.Printed) → IfOk m (λ e. alone g vis e ≡ true) → GivesPrinted [] rest → GivesPrinted [] (next m (λ v. next rest (λ a. Ok (prints.printed_both (record { args = v ∷ []; fit = true }) a))))
   unfolding next
   printed_more (Ok e) (Ok a) h i = (h, i)
@@ -164,6 +178,7 @@ module _ (g : Context) (vis : List ℕ) where
       at false true f = tt
       at false false f = tt
 
+  -- what follows a judgement that gives nothing
   pub after_any : (m : Judged (Unit {0})) (k : Judged Found) → Passes g vis k → Passes g vis (next m (λ _. k))
   unfolding next
   after_any (Ok u) k h = h

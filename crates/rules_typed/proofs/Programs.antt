@@ -27,6 +27,7 @@ use Rattle.rules_typed.proofs.Structs.{Structured, structured, new_before, all_s
 use Rattle.rules_typed.proofs.Headings.{MadeHeadings, made_headings}
 use Rattle.rules_typed.proofs.Found.{fields_good, called_named}
 use Rattle.rules_typed.proofs.Bodies.{Built, built_none, built_more, built, HasHeading, has_function, good_function, function_typed}
+use Rattle.rules_typed.proofs.Numbers.{counted_later, counted_from_none}
 
 -- Each function.
 
@@ -34,9 +35,11 @@ use Rattle.rules_typed.proofs.Bodies.{Built, built_none, built_more, built, HasH
 abbrev lookup_at : Lookup → List Heading → ℕ → CType → List Seen → Lookup
 lookup_at g hs n u ss = record g { above = n; bodies = hs; result = u; seen = ss }
 
+-- at a function the sizes of all structs are known
 known_all : (ds : List StructDef) (g : Lookup) (hs : List Heading) (n : ℕ) (u : CType) (ss : List Seen) → Structured ds g → Known (lookup_at g hs n u ss) (struct_cells g.structs)
 known_all ds g hs n u ss w = record { named = w.among.named; sized = w.among.sized; above = λ n b e. refl }
 
+-- a result with a value is a type
 result_type : (sizes : List ℕ) (public : List Bool) (u : CType) → is_result sizes public u ≡ true → not (is_nothing u) ≡ true → is_type sizes public u ≡ true
 result_type sizes public u h n = on (is_nothing u) (is_leaf u) (is_type sizes public u) h n
   where
@@ -44,6 +47,7 @@ result_type sizes public u h n = on (is_nothing u) (is_leaf u) (is_type sizes pu
     on true b c h n = never n
     on false b c h n = second b c h
 
+-- what the rules look up in a body is what the test has
 agrees : (ds : List StructDef) (g : Lookup) (hs : List Heading) (fs : List TypedFunction) (n : ℕ) (t : TypedFunction) → Structured ds g
     → Built (record g { bodies = hs }) ds (struct_cells g.structs) g.structs hs fs → is_result (struct_cells g.structs) (public_structs g.structs) t.result ≡ true
     → AgreesApart (lookup_at g hs n t.result g.seen) (context g.structs fs t)
@@ -58,6 +62,7 @@ agrees ds g hs fs n t w b k = record {
   back = result_type (struct_cells g.structs) (public_structs g.structs) t.result k;
 }
 
+-- all functions pass the test
 all_functions : (ds : List StructDef) (g : Lookup) (hs ks : List Heading) (fs us : List TypedFunction) → Structured ds g
     → Built (record g { bodies = hs }) ds (struct_cells g.structs) g.structs hs fs → Built (record g { bodies = hs }) ds (struct_cells g.structs) g.structs ks us → all (typed.function g.structs fs) us ≡ true
 all_functions ds g hs _ fs _ w b built_none = refl
@@ -66,6 +71,7 @@ all_functions ds g hs _ fs _ w b (built_more {f} {h} {ss} {t} {hs = ks} {ts = us
   where
     at : CType → Lookup
     at u = lookup_at g hs (count_before f.spot ds) u g.seen
+
     mine : t.result ≡ h.result → typed.function g.structs fs t ≡ true
     mine e =
         function_typed (at h.result) g.structs fs f h ss t
@@ -78,6 +84,7 @@ abbrev heading_names : List Heading → List (List ℕ)
 heading_names [] = []
 heading_names (h ∷ hs) = h.name ∷ heading_names hs
 
+-- functions have the names of their headings
 built_names : (g : Lookup) (ds : List StructDef) (sizes : List ℕ) (structs : List StructType) (hs : List Heading) (ts : List TypedFunction) → Built g ds sizes structs hs ts → function_names ts ≡ heading_names hs
 built_names g ds sizes structs _ _ built_none = refl
 built_names g ds sizes structs _ _ (built_more {f} {h} {ss} {t} {hs} {ts} m s n rest) =
@@ -94,12 +101,14 @@ name_is_new (k ∷ ks) h b q = on k.has_body refl (name_is_new ks h b (second (n
     here true s true false e i q = never i
     here true s false d e i q = never e
     here false s c d e i q = refl
+
     on : (c : Bool) → k.has_body ≡ c → has_name (heading_names (bodies_of ks)) h.name ≡ false → has_name (heading_names (if c then k ∷ bodies_of ks else bodies_of ks)) h.name ≡ false
     on true e rest =
         subst (λ a. (a || has_name (heading_names (bodies_of ks)) h.name) ≡ false)
         (sym (here (same_name k.name h.name) (same_heading k h) k.has_body h.has_body e b (first (not (same_name k.name h.name) || (same_heading k h && not (k.has_body && h.has_body))) (may_stand ks h) q))) rest
     on false e rest = rest
 
+-- headings with one more
 bodies_one : (ks : List Heading) (h : Heading) → h.has_body ≡ true → heading_names (bodies_of (ks ++ h ∷ [])) ≡ heading_names (bodies_of ks) ++ h.name ∷ []
 bodies_one [] h b = ap (λ c. heading_names (if c then h ∷ [] else [])) b
 bodies_one (k ∷ ks) h b = on k.has_body (bodies_one ks h b)
@@ -116,6 +125,7 @@ bodies_none (k ∷ ks) h b = on k.has_body (bodies_none ks h b)
     on true e = ap (λ l. k ∷ l) e
     on false e = e
 
+-- names of functions differ
 names_differ : (sizes : List ℕ) (structs : List StructType) (earlier : List Heading) (fs : List Function) (hs : List Heading) → MadeHeadings sizes structs earlier fs hs
     → (all (λ y. is_new y (heading_names (bodies_of hs))) (heading_names (bodies_of earlier)) ≡ true) × (differ (heading_names (bodies_of hs)) ≡ true)
 names_differ sizes structs earlier [] [] m = (none_left (heading_names (bodies_of earlier)), refl)
@@ -136,18 +146,22 @@ names_differ sizes structs earlier (f ∷ fs) (h ∷ hs) m = on h.has_body refl 
 abbrev Enters : List Heading → ℕ → ℕ → Type 0
 Enters hs n m = (k : ℕ) × (h : Heading) × (m ≡ n + k) × (slice_get hs k ≡ Some h) × (is_entry h ≡ true)
 
+-- the entry stands at its number
 entry_named : (n : ℕ) (hs : List Heading) (m : ℕ) → entry_from n hs ≡ Some m → Enters hs n m
 entry_named n [] m q = absurd (none_some q)
 entry_named n (h ∷ hs) m q = on (is_entry h) refl q (λ p. entry_named (n + 1) hs m p)
   where
     here : (n m : ℕ) → n ≡ m → m ≡ n + 0
     here n m e = omega arith
+
     later : (n m i : ℕ) → m ≡ n + 1 + i → m ≡ n + suc i
     later n m i e = omega arith
+
     on : (b : Bool) → is_entry h ≡ b → (if b then Some n else entry_from (n + 1) hs) ≡ Some m → (entry_from (n + 1) hs ≡ Some m → Enters hs (n + 1) m) → Enters (h ∷ hs) n m
     on true e q f = (0, h, here n m (some_is q), refl, e)
-    on false e q f = let z = f q in (suc z.0, z.1, later n m z.0 z.2, z.3, z.4)
+    on false e q f = let z = f q in (suc z.0, z.1, counted_later n m z.0 z.2, z.3, z.4)
 
+-- and is one for the test
 entry_typed : (sizes : List ℕ) (public : List Bool) (h : Heading) (t : TypedFunction) → HasHeading sizes public h t → is_entry h ≡ true → typed.is_entry (Some t) ≡ true
 entry_typed sizes public h t k e =
     let named = first (same_name h.name (codes "oc_main")) (is_nothing h.result) (first (same_name h.name (codes "oc_main") && is_nothing h.result) (is_empty h.params) (first (same_name h.name (codes "oc_main") && is_nothing h.result && is_empty h.params) (not h.obliv) e)) in
@@ -164,12 +178,14 @@ entry_typed sizes public h t k e =
     none [] q = refl
     none (s ∷ ss) q = never q
 
+-- it is there
 entry_found : (p : Spot) (o : Option ℕ) (n : ℕ) → entry p o ≡ Ok n → o ≡ Some n
 entry_found p None n q = absurd (not_both n _ q)
 entry_found p (Some m) n q = ap (λ n. Some n) (fine_back m n q)
 
 -- Programs.
 
+-- so the tree of a program passes the test
 pub programs_typed : ProgramsAreTyped
 unfolding typed_program
 programs_typed p t b q =
@@ -188,7 +204,4 @@ programs_typed p t b q =
     (both (both (both (both w.typed w.differ)
     (all_functions p.structs g.0 (bodies_of h.0) (bodies_of h.0) f.0 f.0 w all_built all_built))
     (subst (λ l. differ l ≡ true) (sym (built_names (record g.0 { bodies = bodies_of h.0 }) p.structs (struct_cells g.0.structs) g.0.structs (bodies_of h.0) f.0 all_built)) (names_differ (struct_cells g.0.structs) g.0.structs [] p.functions h.0 headings).1))
-    (subst (λ m. typed.is_entry (slice_get f.0 m) ≡ true) (same n.0 e.0 n.2) (subst (λ o. typed.is_entry o ≡ true) (sym enters.1) (entry_typed (struct_cells g.0.structs) (public_structs g.0.structs) n.1 enters.0 enters.2 n.4))))
-  where
-    same : (k m : ℕ) → m ≡ 0 + k → k ≡ m
-    same k m e = omega arith
+    (subst (λ m. typed.is_entry (slice_get f.0 m) ≡ true) (counted_from_none n.0 e.0 n.2) (subst (λ o. typed.is_entry o ≡ true) (sym enters.1) (entry_typed (struct_cells g.0.structs) (public_structs g.0.structs) n.1 enters.0 enters.2 n.4))))

@@ -42,11 +42,12 @@ use Rattle.rules_typed.specs.Grammatical.{Grammatical, GrammaticalOption, Gramma
 use Rattle.rules_typed.specs.Agreeing.{Valued, GoodVariable, Agrees, Goes, AgreesApart, SeesAll}
 use Rattle.rules_typed.specs.Laws.{StatementsAreTyped}
 use Rattle.rules_typed.proofs.Used.{value_used}
-use Rattle.rules_typed.proofs.Bools.{both, either, first, hidden_last, last, never, none_some, number_itself, some_is, some_none, three}
+use Rattle.rules_typed.proofs.Bools.{both, either, first, hidden_last, last, never, none_some, some_is, some_none, three}
 use Rattle.rules_typed.proofs.Types.{held_of, itself, public_test}
 use Rattle.rules_typed.proofs.Nodes.{converted_good, int_good}
 use Rattle.rules_typed.proofs.Slots.{there, Adds, adds_none, adds_both, adds_one}
 use Rattle.rules_typed.proofs.Exprs.{expressions_typed, valued_good}
+use Rattle.rules_typed.proofs.Numbers.{number_itself}
 
 -- the slots of the part after an `else`
 abbrev pub slots_after : Option made_stmt.TStmt → List ℕ
@@ -54,12 +55,15 @@ slots_after None = []
 slots_after (Some x) = typed.slots_in x.node
 
 module _ (r : Lookup) (g : Context) (around : AgreesApart r g) where
+  -- the context among these slots
   abbrev pub among : List SlotType → Context
   among f = record g { slots = f }
 
+  -- what is visible among these slots
   abbrev pub Sees : List ℕ → List Seen → List SlotType → Type 0
   Sees vis ss f = SeesAll g vis ss f
 
+  -- what an expression needs of its names
   fits : (ss : List Seen) (f : List SlotType) (vis : List ℕ) → Sees vis ss f → Agrees (record r { seen = ss }) (among f) vis
   fits ss f vis h = record {
     seen = h;
@@ -68,6 +72,7 @@ module _ (r : Lookup) (g : Context) (around : AgreesApart r g) where
     functions = around.functions ss f;
   }
 
+  -- an expression whose value is used, and one that stands alone
   value_fact : (e : Expr) (z : Scope) (f : List SlotType) (vis : List ℕ) → Grammatical e.node → Sees vis z.seen f → IfOk (typed_value (at r z) e) (λ v. alone (among f) vis v ≡ true)
   unfolding typed_value
   value_fact e z f vis h i = valued_good (at r z) (among f) vis (fits z.seen f vis i) (expr (at r z) false e.spot e.node) (expressions_typed (at r z) (among f) vis e.node false e.spot (fits z.seen f vis i) h)
@@ -80,6 +85,7 @@ module _ (r : Lookup) (g : Context) (around : AgreesApart r g) where
   abbrev Passed : Scope → TExpr → Type 0
   Passed z v = (f : List SlotType) (vis : List ℕ) → Sees vis z.seen f → alone (among f) vis v ≡ true
 
+  -- such an expression, and what follows
   with_value : {B : Type 0} (Q : B × Scope → Type 0) (e : Expr) (k : TExpr → Walk B) (z : Scope) → Grammatical e.node → ((v : TExpr) → Passed z v → IfOk (k v z) Q) → IfOk (bind (value_in r e) k z) Q
   unfolding next
   with_value {B} Q e k z h f = on (typed_value (at r z) e) (λ l vis i. value_fact e z l vis h i) f
@@ -105,11 +111,13 @@ module _ (r : Lookup) (g : Context) (around : AgreesApart r g) where
       on (Ok x) h = f x.0 x.1 h
       on (Err b) h = tt
 
+  -- a rule that is kept, and what follows
   with_needs : {B : Type 0} (Q : B × Scope → Type 0) (p : Spot) (b : TypeRule) (c : Bool) (k : Walk B) (z : Scope) → (c ≡ true → IfOk (k z) Q) → IfOk (bind (ask (needs p b c)) (λ _. k) z) Q
   unfolding next
   with_needs Q p b true k z f = f refl
   with_needs Q p b false k z f = tt
 
+  -- a public integer, and what follows
   with_public : {B : Type 0} (Q : B × Scope → Type 0) (p : Spot) (u : CType) (k : Walk B) (z : Scope) → (test.is_public u ≡ true → IfOk (k z) Q) → IfOk (bind (ask (public_integer p u)) (λ _. k) z) Q
   unfolding next
   with_public {B} Q p u k z f = on (judging.is_public u) (judging.is_public (judging.bare u)) (λ c. f (public_test u c))
@@ -119,6 +127,7 @@ module _ (r : Lookup) (g : Context) (around : AgreesApart r g) where
       on false true f = tt
       on false false f = tt
 
+  -- a conversion, and what follows
   with_convert : {B : Type 0} (Q : B × Scope → Type 0) (u : CType) (v : TExpr) (k : TExpr → Walk B) (z : Scope) → (judging.converts v.ty u ≡ true → IfOk (k (lookup.converted u v) z) Q) → IfOk (bind (ask (lookup.convert u v)) k z) Q
   unfolding next
   with_convert {B} Q u v k z f = on (judging.converts v.ty u) (judging.converts (judging.bare v.ty) (judging.bare u)) f
@@ -130,6 +139,7 @@ module _ (r : Lookup) (g : Context) (around : AgreesApart r g) where
 
   -- Names.
 
+  -- a name that is not found among more variables is not among the earlier ones
   none_add : (ss : List Seen) (n : Seen) (x : List ℕ) → lookup.find (ss ++ n ∷ []) x ≡ None → lookup.find ss x ≡ None
   none_add [] n x q = refl
   none_add (y ∷ ss) n x q = on (lookup.find (ss ++ n ∷ []) x) (lookup.find ss x) (lookup.seen_here y x) (λ p. none_add ss n x p) q
@@ -138,6 +148,7 @@ module _ (r : Lookup) (g : Context) (around : AgreesApart r g) where
       on (Some a) m k f q = absurd (some_none q)
       on None m k f q = subst (λ m. lookup.or_else m k ≡ None) (sym (f refl)) q
 
+  -- a name that is found is that of the last variable, or was found before
   find_add : (P : Type 0) (ss : List Seen) (n : Seen) (x : List ℕ) (y : Seen) → lookup.find (ss ++ n ∷ []) x ≡ Some y → (y ≡ n → P) → (lookup.find ss x ≡ Some y → P) → P
   find_add P [] n x y q f h = on (lookup.same_name n.name x) q
     where
@@ -152,9 +163,11 @@ module _ (r : Lookup) (g : Context) (around : AgreesApart r g) where
       on (Some a) p q i j = i (p ∙ q)
       on None p q i j = h (subst (λ o. lookup.or_else o (lookup.seen_here w x) ≡ Some y) (sym (j p)) q)
 
+  -- a slot has its type
   has_itself : (u : CType) (frozen : Bool) (o : Option SlotType) → o ≡ Some (record { ty = u; frozen = frozen }) → has_type u o ≡ true
   has_itself u frozen o q = subst (λ o. has_type u o ≡ true) (sym q) (itself u)
 
+  -- a variable more is visible
   pub sees_more : (z : Scope) (f : List SlotType) (vis : List ℕ) (x : List ℕ) (u : CType) (frozen : Bool) → is_type g.sizes g.public u ≡ true → Goes (add x u frozen z).slots f → Sees vis z.seen f → Sees (length z.slots ∷ vis) (add x u frozen z).seen f
   sees_more z f vis x u frozen k e h = λ y w q.
       find_add (GoodVariable (among f) (length z.slots ∷ vis) w) z.seen (record { name = x; level = z.level; slot = length z.slots; ty = u }) y w q
@@ -167,9 +180,11 @@ module _ (r : Lookup) (g : Context) (around : AgreesApart r g) where
   abbrev IsSlot : CType → Bool → Type 0
   IsSlot u frozen = typed.is_slot g.sizes g.public (record { ty = u; frozen = frozen }) ≡ true
 
+  -- a slot's type is a type
   slot_type : (u : CType) (frozen : Bool) → IsSlot u frozen → is_type g.sizes g.public u ≡ true
   slot_type u frozen h = first (is_type g.sizes g.public u) (not (frozen && typed.is_starred u)) h
 
+  -- a variable that is declared
   pub record DoneDeclared (z : Scope) (x : made_declared.TDeclared) (t : Scope) : Type 0 where
     pub adds : Adds g z.slots t.slots (x.slot ∷ [])
     pub test : (f : List SlotType) (vis : List ℕ) → Goes t.slots f → Sees vis z.seen f → typed.initial (among f) (x.slot ∷ vis) (slice_get f x.slot) x.init ≡ true
@@ -179,15 +194,18 @@ module _ (r : Lookup) (g : Context) (around : AgreesApart r g) where
   abbrev Turned : Scope → CType → TExpr → Type 0
   Turned z u x = (f : List SlotType) (vis : List ℕ) → Sees vis z.seen f → Valued (among f) vis u x
 
+  -- a conversion of a value that passes
   turned_value : (z : Scope) (u : CType) (v : TExpr) → is_type g.sizes g.public u ≡ true → Passed z v → judging.converts v.ty u ≡ true → Turned z u (lookup.converted u v)
   turned_value z u v k h c = λ f vis i. converted_good (among f) vis u v (h f vis i) k c
 
+  -- an initialiser, or none
   initial_test : (f : List SlotType) (vis : List ℕ) (u : CType) (frozen : Bool) (o : Option SlotType) (x : TExpr) → o ≡ Some (record { ty = u; frozen = frozen }) → test.is_held u ≡ true → Valued (among f) vis u x → typed.initial (among f) vis o (Some x) ≡ true
   initial_test f vis u frozen o x q h v = subst (λ o. typed.initial (among f) vis o (Some x) ≡ true) (sym q) (three (subst (λ w. same true w u ≡ true) (sym v.ty) (itself u)) h v.good)
 
   initial_none : (f : List SlotType) (vis : List ℕ) (u : CType) (frozen : Bool) (o : Option SlotType) → o ≡ Some (record { ty = u; frozen = frozen }) → typed.initial (among f) vis o None ≡ true
   initial_none f vis u frozen o q = subst (λ o. typed.initial (among f) vis o None ≡ true) (sym q) refl
 
+  -- a variable without an initialiser, and with one
   declared_none : (z : Scope) (p : Spot) (x : List ℕ) (u : CType) (frozen : Bool) → IsSlot u frozen → DoneDeclared z (record { spot = p; slot = length z.slots; init = None }) (add x u frozen z)
   declared_none z p x u frozen k = record {
     adds = adds_one g z.slots (record { ty = u; frozen = frozen }) k;
@@ -202,6 +220,7 @@ module _ (r : Lookup) (g : Context) (around : AgreesApart r g) where
     sees = λ f vis e i. sees_more z f vis x u frozen (slot_type u frozen k) e i;
   }
 
+  -- its initialiser is judged
   initial_done : (z : Scope) (p : Spot) (x : List ℕ) (u : CType) (frozen : Bool) (o : Option Expr) → IsSlot u frozen → GrammaticalOption o → IfOk (bind (walk.initial r u o) (λ v. pure (record { spot = p; slot = length z.slots; init = v })) (add x u frozen z)) (λ q. DoneDeclared z q.0 q.1)
   unfolding next
   initial_done z p x u frozen None k h = declared_none z p x u frozen k
@@ -211,22 +230,26 @@ module _ (r : Lookup) (g : Context) (around : AgreesApart r g) where
       (λ v i. with_convert (λ q. (v : TExpr) × (q.0 ≡ Some v) × (q.1 ≡ add x u frozen z) × (test.is_held u ≡ true) × Turned (add x u frozen z) u v) u v (λ x. pure (Some x)) (add x u frozen z) (λ c. (lookup.converted u v, refl, refl, held_of v.ty u c, turned_value (add x u frozen z) u v (slot_type u frozen k) i c))))
       (λ a t q. subst (λ t. DoneDeclared z (record { spot = p; slot = length z.slots; init = a }) t) (sym q.2) (subst (λ a. DoneDeclared z (record { spot = p; slot = length z.slots; init = a }) (add x u frozen z)) (sym q.1) (declared_some z p x u frozen q.0 k q.3 q.4)))
 
+  -- a declaration
   declare_done : (d : Declared) (z : Scope) → GrammaticalOption d.init → IfOk (declare r d z) (λ q. DoneDeclared z q.0 q.1)
   unfolding next
   declare_done d z h = on (field_type r d.field) (not (is_taken z.seen z.level d.field.name)) around_declared
     where
       around_declared : (u : CType) → field_type r d.field ≡ Ok u → IsSlot u (is_frozen_place d.field.base d.field.stars)
       around_declared u q = around.declared d.field u q
+
       on : (m : Judged CType) (b : Bool) → ((u : CType) → m ≡ Ok u → IsSlot u (is_frozen_place d.field.base d.field.stars)) → IfOk (next m (λ ty. next (needs d.field.spot T2 b) (λ _. bind {B = made_declared.TDeclared} (walk.initial r ty d.init) (λ v. pure (record { spot = d.field.spot; slot = length z.slots; init = v })) (add d.field.name ty (is_frozen_place d.field.base d.field.stars) z)))) (λ q. DoneDeclared z q.0 q.1)
       on (Ok u) true i = initial_done z d.field.spot d.field.name u (is_frozen_place d.field.base d.field.stars) d.init (i u refl) h
       on (Ok u) false i = tt
       on (Err e) b i = tt
 
+  -- variables that are declared one after the other
   pub record DoneAll (z : Scope) (xs : List made_declared.TDeclared) (t : Scope) : Type 0 where
     pub adds : Adds g z.slots t.slots (typed.slots_of xs)
     pub test : (f : List SlotType) (vis : List ℕ) → Goes t.slots f → Sees vis z.seen f → typed.declares (among f) vis xs ≡ true
     pub sees : (f : List SlotType) (vis : List ℕ) → Goes t.slots f → Sees vis z.seen f → Sees (visible.after_all vis xs) t.seen f
 
+  -- declarations in order
   declare_all_done : (ds : List Declared) (z : Scope) → GrammaticalDeclared ds → IfOk (declare_all r ds z) (λ q. DoneAll z q.0 q.1)
   declare_all_done [] z h = record { adds = adds_none g z.slots; test = λ f vis e i. refl; sees = λ f vis e i. i }
   declare_all_done (d ∷ ds) z h =
@@ -253,43 +276,53 @@ module _ (r : Lookup) (g : Context) (around : AgreesApart r g) where
     pub test : (f : List SlotType) (vis : List ℕ) → Goes t.slots f → Sees vis z.seen f → typed.stmt (among f) loop vis x.node ≡ true
     pub sees : (f : List SlotType) (vis : List ℕ) → Goes t.slots f → Sees vis z.seen f → Sees vis t.seen f
 
+  -- a statement that is no declaration, as a part
   as_part : (d loop : Bool) (z : Scope) (x : made_stmt.TStmt) (t : Scope) → d ≡ false → Done d loop z x t → DonePart loop z x t
   as_part d loop z x t q h = record { adds = h.adds; test = h.test; sees = λ f vis e i. subst (λ v. Sees v t.seen f) (h.still q vis) (h.sees f vis e i) }
 
+  -- the test of the part after an `else`
   abbrev other_test : List SlotType → Bool → List ℕ → Option made_stmt.TStmt → Type 0
   other_test f loop vis None = Unit {0}
   other_test f loop vis (Some x) = typed.stmt (among f) loop vis x.node ≡ true
 
+  -- the part after an `else`
   pub record DoneOther (loop : Bool) (z : Scope) (o : Option made_stmt.TStmt) (t : Scope) : Type 0 where
     pub adds : Adds g z.slots t.slots (slots_after o)
     pub test : (f : List SlotType) (vis : List ℕ) → Goes t.slots f → Sees vis z.seen f → other_test f loop vis o
     pub sees : (f : List SlotType) (vis : List ℕ) → Goes t.slots f → Sees vis z.seen f → Sees vis t.seen f
 
+  -- the test of statements one after another
   abbrev pub rows_test : List SlotType → Bool → List ℕ → List made_stmt.TStmt → Bool
   rows_test f loop vis [] = true
   rows_test f loop vis (x ∷ xs) = typed.stmt (among f) loop vis x.node && rows_test f loop (visible.after_node vis x.node) xs
 
+  -- statements one after another
   pub record DoneRows (loop : Bool) (z : Scope) (xs : List made_stmt.TStmt) (t : Scope) : Type 0 where
     pub adds : Adds g z.slots t.slots (typed.slots_in_all xs)
     pub test : (f : List SlotType) (vis : List ℕ) → Goes t.slots f → Sees vis z.seen f → rows_test f loop vis xs ≡ true
 
+  -- the statements of a block as a row
   abbrev stmts_of : (ss : List made_stmt.TStmt) → s.Row_of-TStmt (list_count (this {0}) (lists.map (λ x. (this {0}).shape made_stmt.TStmt x) ss) 0)
   stmts_of ss = back-the_row-TStmt (list_count (this {0}) (lists.map (λ x. (this {0}).shape made_stmt.TStmt x) ss) 0) (children (the_former (this {0})) made_stmt.TStmt ss)
 
+  -- the test of a row is that of its list
   rows_same : (f : List SlotType) (loop : Bool) (vis : List ℕ) (ss : List made_stmt.TStmt) → typed.rows (among f) loop vis (stmts_of ss) ≡ rows_test f loop vis ss
   unfolding hidden
   rows_same f loop vis [] = refl
   rows_same f loop vis (x ∷ xs) = ap (λ b. typed.stmt (among f) loop vis x.node && b) (rows_same f loop (visible.after_node vis x.node) xs)
 
+  -- the node of a block
   block_node : (f : List SlotType) (loop : Bool) (vis : List ℕ) (ss : List made_stmt.TStmt) → rows_test f loop vis ss ≡ true → typed.stmt (among f) loop vis (s.Block ss) ≡ true
   unfolding hidden-the_row-TStmt-1 hidden
   block_node f loop vis ss h = rows_same f loop vis ss ∙ h
 
+  -- the slots of a row are those of its list
   slots_same : (ss : List made_stmt.TStmt) → typed.slots_in_rows (stmts_of ss) ≡ typed.slots_in_all ss
   unfolding hidden
   slots_same [] = refl
   slots_same (x ∷ xs) = ap (λ l. typed.slots_in x.node ++ l) (slots_same xs)
 
+  -- the slots that each form declares, in order
   block_slots : (ss : List made_stmt.TStmt) → typed.slots_in (s.Block ss) ≡ typed.slots_in_all ss
   unfolding hidden-the_row-TStmt-1 hidden
   block_slots ss = slots_same ss
@@ -316,10 +349,12 @@ module _ (r : Lookup) (g : Context) (around : AgreesApart r g) where
   unfolding hidden-the_row-TStmt-0 hidden-the_row-TStmt-1 hidden
   for_slots i c v a = refl
 
+  -- nothing more is visible after a statement that is no declaration
   block_still : (ss : List made_stmt.TStmt) (vis : List ℕ) → visible.after_node vis (s.Block ss) ≡ vis
   unfolding hidden-the_row-TStmt-1 hidden
   block_still ss vis = refl
 
+  -- the node of an `if`
   if_node : (f : List SlotType) (loop : Bool) (vis : List ℕ) (c : TExpr) (a : made_stmt.TStmt) (b : Option made_stmt.TStmt) → typed.condition (among f) vis c ≡ true → typed.stmt (among f) loop vis a.node ≡ true → other_test f loop vis b → typed.stmt (among f) loop vis (s.If c a b) ≡ true
   unfolding hidden-the_row-TStmt-0 hidden-the_row-TStmt-1 hidden
   if_node f loop vis c a None h i j = three h i refl
@@ -330,6 +365,7 @@ module _ (r : Lookup) (g : Context) (around : AgreesApart r g) where
   if_still c a None vis = refl
   if_still c a (Some b) vis = refl
 
+  -- the node of an `obliv if`
   hidden_node : (f : List SlotType) (loop : Bool) (vis : List ℕ) (c : TExpr) (a : made_stmt.TStmt) (b : Option made_stmt.TStmt) → Valued (among f) vis (Int KBool true) c → typed.stmt (among f) loop vis a.node ≡ true → other_test f loop vis b → typed.stmt (among f) loop vis (s.OblivIf c a b) ≡ true
   unfolding hidden-the_row-TStmt-0 hidden-the_row-TStmt-1 hidden
   hidden_node f loop vis c a None h i j = both (three (subst (λ u. same true u (Int KBool true) ≡ true) (sym h.ty) refl) h.good i) refl
@@ -340,6 +376,7 @@ module _ (r : Lookup) (g : Context) (around : AgreesApart r g) where
   hidden_still c a None vis = refl
   hidden_still c a (Some b) vis = refl
 
+  -- the node of a `while`
   while_node : (f : List SlotType) (loop : Bool) (vis : List ℕ) (c : TExpr) (a : made_stmt.TStmt) → typed.condition (among f) vis c ≡ true → typed.stmt (among f) true vis a.node ≡ true → typed.stmt (among f) loop vis (s.While c a) ≡ true
   unfolding hidden-the_row-TStmt-0 hidden-the_row-TStmt-1 hidden
   while_node f loop vis c a h i = both h i
@@ -348,6 +385,7 @@ module _ (r : Lookup) (g : Context) (around : AgreesApart r g) where
   unfolding hidden-the_row-TStmt-0 hidden-the_row-TStmt-1 hidden
   while_still c a vis = refl
 
+  -- the node of a `~obliv`
   always_node : (f : List SlotType) (loop : Bool) (vis : List ℕ) (n : ℕ) (p : Spot) (ss : List made_stmt.TStmt) → has_type (Int KBool true) (slice_get f n) ≡ true → rows_test f loop (n ∷ vis) ss ≡ true → typed.stmt (among f) loop vis (s.Always n (made_stmt.roll-TStmt (record { spot = p; node = s.Block ss }))) ≡ true
   unfolding hidden-the_row-TStmt-0 hidden-the_row-TStmt-1 hidden
   always_node f loop vis n p ss h i = three h refl (rows_same f loop (n ∷ vis) ss ∙ i)
@@ -356,6 +394,7 @@ module _ (r : Lookup) (g : Context) (around : AgreesApart r g) where
   unfolding hidden-the_row-TStmt-0 hidden-the_row-TStmt-1 hidden
   always_still n a vis = refl
 
+  -- the node of a `for`
   for_node : (f : List SlotType) (loop : Bool) (vis : List ℕ) (i : made_init.TForInit) (c v : Option TExpr) (a : made_stmt.TStmt) → typed.header (among f) vis i ≡ true → typed.maybe (typed.condition (among f) (visible.after_header vis i)) c ≡ true → typed.maybe (typed.valued (among f) (visible.after_header vis i)) v ≡ true → typed.stmt (among f) true (visible.after_header vis i) a.node ≡ true → typed.stmt (among f) loop vis (s.For i c v a) ≡ true
   unfolding hidden-the_row-TStmt-0 hidden-the_row-TStmt-1 hidden
   for_node f loop vis i c v a h j k l = both (three h j k) l
@@ -364,6 +403,7 @@ module _ (r : Lookup) (g : Context) (around : AgreesApart r g) where
   unfolding hidden-the_row-TStmt-0 hidden-the_row-TStmt-1 hidden
   for_still i c v a vis = refl
 
+  -- a part with a scope of its own
   scoped_ok : {A : Type 0} (P Q : A × Scope → Type 0) (m : Walk A) (z : Scope) → IfOk (m (record z { level = z.level + 1 })) P → ((a : A) (t : Scope) → P (a, t) → Q (a, record { seen = z.seen; slots = t.slots; level = z.level })) → IfOk (scoped m z) Q
   unfolding next
   scoped_ok {A} P Q m z h f = on (m (record z { level = z.level + 1 })) h
@@ -372,13 +412,16 @@ module _ (r : Lookup) (g : Context) (around : AgreesApart r g) where
       on (Ok x) h = f x.0 x.1 h
       on (Err b) h = tt
 
+  -- a value has a type wherever its names are visible
   abbrev UsedIn : Scope → TExpr → Type 0
   UsedIn z v = (f : List SlotType) (vis : List ℕ) → Sees vis z.seen f → not (is_nothing v.ty) ≡ true
 
+  -- an expression that may be missing
   abbrev PassedOption : Scope → Option TExpr → Type 0
   PassedOption z None = Unit {0}
   PassedOption z (Some v) = Passed z v × UsedIn z v
 
+  -- an expression with a value, and what follows
   with_used : {B : Type 0} (Q : B × Scope → Type 0) (e : Expr) (k : TExpr → Walk B) (z : Scope) → Grammatical e.node → ((v : TExpr) → Passed z v → UsedIn z v → IfOk (k v z) Q) → IfOk (bind (value_in r e) k z) Q
   unfolding next typed_value
   with_used {B} Q e k z h f = on (typed_value (at r z) e) (λ l vis i. value_fact e z l vis h i) (λ v q l vis a. value_used (at r z) e.spot e.node v q (among l) vis a) f
@@ -387,6 +430,7 @@ module _ (r : Lookup) (g : Context) (around : AgreesApart r g) where
       on (Ok v) i j f = f v i (λ l vis s. j v refl l vis (i l vis s))
       on (Err b) i j f = tt
 
+  -- one that may be missing, and what follows
   with_optional : {B : Type 0} (Q : B × Scope → Type 0) (o : Option Expr) (k : Option TExpr → Walk B) (z : Scope) → GrammaticalOption o → ((y : Option TExpr) → PassedOption z y → IfOk (k y z) Q) → IfOk (bind (optional_in r o) k z) Q
   unfolding next
   with_optional Q None k z h f = f None tt
@@ -395,20 +439,24 @@ module _ (r : Lookup) (g : Context) (around : AgreesApart r g) where
       (with_used (λ q. (v : TExpr) × (q.0 ≡ Some v) × (q.1 ≡ z) × PassedOption z (Some v)) e (λ v. pure (Some v)) z h (λ v i j. (v, refl, refl, (i, j))))
       (λ a t q. subst (λ t. IfOk (k a t) Q) (sym q.2) (subst (λ a. IfOk (k a z) Q) (sym q.1) (f (Some q.0) q.3)))
 
+  -- a public integer, if it is there
   public_option : Option TExpr → Type 0
   public_option None = Unit {0}
   public_option (Some v) = test.is_public v.ty ≡ true
 
+  -- the condition of a `for`, and what follows
   with_condition : {B : Type 0} (Q : B × Scope → Type 0) (p : Spot) (o : Option TExpr) (k : Walk B) (z : Scope) → ((v : TExpr) → o ≡ Some v → test.is_public v.ty ≡ true → Unit {0}) → (((v : TExpr) → o ≡ Some v → test.is_public v.ty ≡ true) → IfOk (k z) Q) → IfOk (bind (ask (walk.condition p o)) (λ _. k) z) Q
   unfolding next
   with_condition Q p None k z u f = f (λ v q. absurd (none_some q))
   with_condition Q p (Some v) k z u f = with_public Q p v.ty k z (λ c. f (λ w q. subst (λ w. test.is_public w.ty ≡ true) (some_is q) c))
 
+  -- what the header of a `for` begins with
   pub record DoneHeader (z : Scope) (i : made_init.TForInit) (t : Scope) : Type 0 where
     pub adds : Adds g z.slots t.slots (typed.slots_of_header i)
     pub test : (f : List SlotType) (vis : List ℕ) → Goes t.slots f → Sees vis z.seen f → typed.header (among f) vis i ≡ true
     pub sees : (f : List SlotType) (vis : List ℕ) → Goes t.slots f → Sees vis z.seen f → Sees (visible.after_header vis i) t.seen f
 
+  -- the header of a `for`
   header_done : (i : ForInit) (z : Scope) → GrammaticalHeader i → IfOk (walk.header r i z) (λ q. DoneHeader z q.0 q.1)
   header_done begin.Nothing z h = record { adds = adds_none g z.slots; test = λ f vis e i. refl; sees = λ f vis e i. i }
   header_done (begin.Declare ds) z h =
@@ -416,6 +464,7 @@ module _ (r : Lookup) (g : Context) (around : AgreesApart r g) where
   header_done (begin.Express e) z h =
       with_used (λ q. DoneHeader z q.0 q.1) e (λ v. pure (init.Express v)) z h (λ v i n. record { adds = adds_none g z.slots; test = λ f vis e j. both (n f vis j) (i f vis j); sees = λ f vis e j. j })
 
+  -- a condition and a step that may be missing
   maybe_condition : (f : List SlotType) (vis : List ℕ) (z : Scope) (o : Option TExpr) → PassedOption z o → ((v : TExpr) → o ≡ Some v → test.is_public v.ty ≡ true) → Sees vis z.seen f → typed.maybe (typed.condition (among f) vis) o ≡ true
   maybe_condition f vis z None h i j = refl
   maybe_condition f vis z (Some v) h i j = both (i v refl) (h.0 f vis j)
@@ -430,14 +479,17 @@ module _ (r : Lookup) (g : Context) (around : AgreesApart r g) where
     pub test : (f : List SlotType) (vis : List ℕ) → Goes t.slots f → Sees vis z.seen f → typed.stmt (among f) loop vis x.node ≡ true
     pub still : (vis : List ℕ) → visible.after_node vis x.node ≡ vis
 
+  -- the statements of a block, whose names end with it
   pub record DoneBlock (loop : Bool) (z : Scope) (xs : List made_stmt.TStmt) (t : Scope) : Type 0 where
     pub adds : Adds g z.slots t.slots (typed.slots_in_all xs)
     pub test : (f : List SlotType) (vis : List ℕ) → Goes t.slots f → Sees vis z.seen f → rows_test f loop vis xs ≡ true
     pub sees : t.seen ≡ z.seen
 
+  -- its names end
   from_inner : (d loop : Bool) (z : Scope) (x : made_stmt.TStmt) (t : Scope) → Inner loop z x t → Done d loop z x (record { seen = z.seen; slots = t.slots; level = z.level })
   from_inner d loop z x t h = record { adds = h.adds; test = h.test; sees = λ f vis e i. subst (λ v. Sees v z.seen f) (sym (h.still vis)) i; still = λ q vis. h.still vis }
 
+  -- a `return`
   returned_done : (loop : Bool) (p : Spot) (o : Option TExpr) (z : Scope) → PassedOption z o → IfOk (bind (ask (walk.returned r p o)) (λ x. walk.made p (s.Return x)) z) (λ q. Done false loop z q.0 q.1)
   unfolding next
   returned_done loop p None z h = on (is_nothing r.result) (λ q. subst (λ u. is_nothing u ≡ true) around.same_result q)
@@ -456,6 +508,7 @@ module _ (r : Lookup) (g : Context) (around : AgreesApart r g) where
           give false true t = tt
           give false false t = tt
 
+  -- a `~obliv` with its block
   always_done : (loop : Bool) (p q : Spot) (x : List ℕ) (z : Scope) (ss : List made_stmt.TStmt) (t : Scope) → DoneBlock loop (add x (Int KBool true) false z) ss t → Inner loop z (made_stmt.roll-TStmt (record { spot = p; node = s.Always (length z.slots) (made_stmt.roll-TStmt (record { spot = q; node = s.Block ss })) })) t
   always_done loop p q x z ss t h = record {
     adds = subst (λ l. Adds g z.slots t.slots l) (sym (always_slots (length z.slots) q ss)) (adds_both g z.slots (z.slots ++ record { ty = Int KBool true; frozen = false } ∷ []) t.slots (length z.slots ∷ []) (typed.slots_in_all ss) (adds_one g z.slots (record { ty = Int KBool true; frozen = false }) refl) h.adds);
@@ -463,10 +516,12 @@ module _ (r : Lookup) (g : Context) (around : AgreesApart r g) where
     still = λ vis. always_still (length z.slots) (made_stmt.roll-TStmt (record { spot = q; node = s.Block ss })) vis;
   }
 
+  -- a part that is no declaration
   part_of : (d loop : Bool) (z : Scope) (m : Judged (made_stmt.TStmt × Scope)) → d ≡ false → IfOk m (λ q. Done d loop z q.0 q.1) → IfOk m (λ q. DonePart loop z q.0 q.1)
   part_of d loop z (Ok x) q h = as_part d loop z x.0 x.1 q h
   part_of d loop z (Err b) q h = tt
 
+  -- no statement, and one before others
   pub rows_none : (loop : Bool) (z : Scope) → DoneRows loop z [] z
   rows_none loop z = record { adds = adds_none g z.slots; test = λ f vis e i. refl }
 
@@ -478,6 +533,7 @@ module _ (r : Lookup) (g : Context) (around : AgreesApart r g) where
         test = λ l vis e i. both (a.test l vis (b.adds.grows l e) i) (b.test l (visible.after_node vis x.node) e (a.sees l vis (b.adds.grows l e) i));
       }))
 
+  -- the level of a scope is no matter
   header_level : (i : ForInit) (z : Scope) → GrammaticalHeader i → IfOk (walk.header r i (record z { level = z.level + 1 })) (λ q. DoneHeader z q.0 q.1)
   header_level i z h = weaker (walk.header r i (record z { level = z.level + 1 })) (header_done i (record z { level = z.level + 1 }) h)
     where
@@ -492,6 +548,8 @@ module _ (r : Lookup) (g : Context) (around : AgreesApart r g) where
 
   mutual
     unfolding next
+
+    -- each form of a statement
     pub stmt_done : (c : StmtNode) (loop : Bool) (p : Spot) (z : Scope) → GrammaticalStmt c → IfOk (walk.stmt r loop p c z) (λ q. Done (is_declaration c) loop z q.0 q.1)
     stmt_done (Declare ds) loop p z h =
         with_part (λ q. DoneAll z q.0 q.1) (λ q. Done true loop z q.0 q.1) (declare_all r ds) (λ xs. walk.made p (s.Declare xs)) z (declare_all_done ds z h)
@@ -569,6 +627,7 @@ module _ (r : Lookup) (g : Context) (around : AgreesApart r g) where
     rows_done end_of-Stmt loop z h = rows_none loop z
     rows_done (more_of-Stmt p n rest) loop z h = rows_more (is_declaration n) loop z (walk.stmt r loop p n) (walk.stmts r loop rest) (stmt_done n loop p z h.0) (λ t. rows_done rest loop t h.1)
 
+-- so each statement passes
 pub statements_typed : StatementsAreTyped
 statements_typed r g c loop p z around h = shown (walk.stmt r loop p c z) (stmt_done r g around c loop p z h)
   where

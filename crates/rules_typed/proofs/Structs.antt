@@ -23,9 +23,10 @@ use Rattle.type_rules.specs.Written.{has_name, number_from, number_or, struct_na
 use Rattle.type_rules.specs.ProgramRules.{first_lookup}
 use Rattle.type_rules.proofs.Laws.{fine_back, not_both, parted}
 use Rattle.rules_typed.specs.Grammatical.{has_fields, GrammaticalStructs}
-use Rattle.rules_typed.proofs.Bools.{never, both, three, first, second, number_itself}
+use Rattle.rules_typed.proofs.Bools.{never, both, three, first, second}
 use Rattle.rules_typed.proofs.Slots.{one_on, length_one, all_one}
 use Rattle.rules_typed.proofs.WrittenTypes.{needed, is_cells, cells_at, Known, Least, Declares, declares, field_least, field_fits, field_good}
+use Rattle.rules_typed.proofs.Numbers.{number_itself, not_zero, no_less, one_less, none_more, one_more}
 
 -- Names.
 
@@ -39,9 +40,15 @@ new_before (y ∷ ys) x ns h i =
     other : (a b : Bool) → (a || b) ≡ false → not a ≡ true
     other true b h = sym h
     other false b h = refl
+
     rest : (a b : Bool) → (a || b) ≡ false → b ≡ false
     rest true b h = never (sym h)
     rest false b h = h
+
+-- each name is new to none
+pub none_left : (ys : List (List ℕ)) → all (λ y. is_new y []) ys ≡ true
+none_left [] = refl
+none_left (y ∷ ys) = none_left ys
 
 -- Fields.
 
@@ -53,6 +60,7 @@ MadeFields g earlier at (f ∷ fs) [] = ⊥
 MadeFields g earlier at (f ∷ fs) (t ∷ ts) =
     Declares g f t.ty × (t.name ≡ f.name) × (t.offset ≡ at) × (has_name earlier f.name ≡ false) × MadeFields g (f.name ∷ earlier) (at + cells_of g t.ty) fs ts
 
+-- what is found for fields
 made_fields : (g : Lookup) (earlier : List (List ℕ)) (at : ℕ) (fs : List FieldDef) (ts : List FieldType) → fields g earlier at fs ≡ Ok ts → MadeFields g earlier at fs ts
 made_fields g earlier at [] ts q = subst (λ ts. MadeFields g earlier at [] ts) (fine_back [] ts q) tt
 made_fields g earlier at (f ∷ fs) ts q =
@@ -62,6 +70,7 @@ made_fields g earlier at (f ∷ fs) ts q =
     subst (λ ts. MadeFields g earlier at (f ∷ fs) ts) (fine_back _ ts z.2)
     (declares g f y.0 y.1, refl, refl, not-true (has_name earlier f.name) n.0, made_fields g (f.name ∷ earlier) (at + cells_of g y.0) fs z.0 z.1)
 
+-- fields pass the test
 fields_typed : (g : Lookup) (structs : List StructType) (sizes : List ℕ) (earlier : List (List ℕ)) (at : ℕ) (fs : List FieldDef) (ts : List FieldType) → g.public ≡ public_structs structs → Known g sizes → Least g (struct_cells g.structs)
     → MadeFields g earlier at fs ts → are_fields sizes (public_structs structs) (struct_cells g.structs) at ts ≡ true
 fields_typed g structs sizes earlier at [] [] e h l m = refl
@@ -71,21 +80,20 @@ fields_typed g structs sizes earlier at (f ∷ fs) (t ∷ ts) e h l m =
     both (three (field_good g structs sizes f t.ty e h m.0) (both (field_least g f t.ty l m.0) (field_fits g f t.ty m.0)) (subst (λ n. nat_eq n at ≡ true) (sym m.2) (number_itself at)))
     (fields_typed g structs sizes (f.name ∷ earlier) (at + cells_of g t.ty) fs ts e h l m.4)
 
+-- names of fields differ
 fields_differ : (g : Lookup) (earlier : List (List ℕ)) (at : ℕ) (fs : List FieldDef) (ts : List FieldType) → MadeFields g earlier at fs ts → (all (λ y. is_new y (field_names ts)) earlier ≡ true) × (differ (field_names ts) ≡ true)
 fields_differ g earlier at [] [] m = (none_left earlier, refl)
-  where
-    none_left : (ys : List (List ℕ)) → all (λ y. is_new y []) ys ≡ true
-    none_left [] = refl
-    none_left (y ∷ ys) = none_left ys
 fields_differ g earlier at [] (t ∷ ts) m = absurd m
 fields_differ g earlier at (f ∷ fs) [] m = absurd m
 fields_differ g earlier at (f ∷ fs) (t ∷ ts) m =
     let z = fields_differ g (f.name ∷ earlier) (at + cells_of g t.ty) fs ts m.4 in
     let mine = first (is_new f.name (field_names ts)) (all (λ y. is_new y (field_names ts)) earlier) z.0 in
-    let theirs = second (is_new f.name (field_names ts)) (all (λ y. is_new y (field_names ts)) earlier) z.0 in
-    (subst (λ x. all (λ y. is_new y (x ∷ field_names ts)) earlier ≡ true) (sym m.1) (new_before earlier f.name (field_names ts) m.3 theirs),
-    both (subst (λ x. is_new x (field_names ts) ≡ true) (sym m.1) mine) z.1)
+    let theirs = second (is_new f.name (field_names ts)) (all (λ y. is_new y (field_names ts)) earlier) z.0 in (
+      subst (λ x. all (λ y. is_new y (x ∷ field_names ts)) earlier ≡ true) (sym m.1) (new_before earlier f.name (field_names ts) m.3 theirs),
+      both (subst (λ x. is_new x (field_names ts) ≡ true) (sym m.1) mine) z.1,
+    )
 
+-- a struct with a field has a cell
 fields_least : (g : Lookup) (earlier : List (List ℕ)) (at : ℕ) (fs : List FieldDef) (ts : List FieldType) → has_fields fs ≡ true → Least g (struct_cells g.structs) → MadeFields g earlier at fs ts → nat_le 1 (field_cells (struct_cells g.structs) ts) ≡ true
 fields_least g earlier at [] ts b l m = never b
 fields_least g earlier at (f ∷ fs) [] b l m = absurd m
@@ -97,6 +105,7 @@ fields_least g earlier at (f ∷ fs) (t ∷ ts) b l m = more (cells (struct_cell
 -- Public data.
 
 mutual
+  -- a type in normal form holds public data alike
   normal_holds : (known public : List Bool) (inside : Bool) (t : CType) → holds_public known (normal public inside t) ≡ holds_public known t
   normal_holds known public inside (Int k o) = refl
   normal_holds known public inside (Pointer' f u t) = refl
@@ -108,11 +117,13 @@ mutual
   normal_row_holds known public inside (more_of-CType t ts) = normal_holds known public inside t
   normal_row_holds known public inside end_of-CType = refl
 
+-- arrays hold what their elements do
 arrays_hold : (known : List Bool) (ns : List ℕ) (t : CType) → holds_public known (arrays ns t) ≡ holds_public known t
 unfolding hidden-the_row-CType-0 hidden
 arrays_hold known [] t = refl
 arrays_hold known (n ∷ ns) t = arrays_hold known ns t
 
+-- pointers are public data
 pointer_holds : (known : List Bool) (f : Bool) (t : CType) → holds_public known (Pointer f t) ≡ true
 unfolding hidden-the_row-CType-0 hidden
 pointer_holds known f t = refl
@@ -128,10 +139,12 @@ begun_holds g known v b u q = on b.kind q
     at : (o : Option ℕ) → struct_named g v b.spot o ≡ Ok u → holds_public known u ≡ slice_index_or known (number_or (length known) o) false
     at None q = absurd (not_both u _ q)
     at (Some n) q = sym (ap (λ u. holds_public known u) (fine_back (Struct n) u (needed b.spot T1 (not v || nat_lt n g.above) (Ok (Struct n)) u q).1))
+
     on : (k : BaseKind) → base_kind g v b.spot b.obliv k ≡ Ok u → holds_public known u ≡ base_public g.names known b.obliv k
     on (base.Int k) q = sym (ap (λ u. holds_public known u) (fine_back (Int k b.obliv) u q))
     on (base.Struct x) q = at (number_from 0 g.names x) q
 
+-- a field holds public data where it is written so
 declared_holds : (g : Lookup) (known : List Bool) (f : FieldDef) (u : CType) → Declares g f u → holds_public known u ≡ field_public g.names known f
 declared_holds g known f u d =
     ap (λ u. holds_public known u) d.is
@@ -139,12 +152,11 @@ declared_holds g known f u d =
     ∙ arrays_hold known f.dims (starred f.base.frozen f.stars d.base)
     ∙ on f.stars
   where
-    not_zero : (k : ℕ) → nat_eq (suc k) 0 ≡ false
-    not_zero k = grind arith
     on : (k : ℕ) → holds_public known (starred f.base.frozen k d.base) ≡ (not (nat_eq k 0) || base_public g.names known f.base.obliv f.base.kind)
     on zero = begun_holds g known (nat_eq f.stars 0) f.base d.base d.found
     on (suc k) = starred_holds known f.base.frozen k (Pointer f.base.frozen d.base) (pointer_holds known f.base.frozen d.base) ∙ sym (ap (λ z. not z || base_public g.names known f.base.obliv f.base.kind) (not_zero k))
 
+-- and so do fields
 fields_hold : (g : Lookup) (known : List Bool) (earlier : List (List ℕ)) (at : ℕ) (fs : List FieldDef) (ts : List FieldType) → MadeFields g earlier at fs ts → some_public known ts ≡ some_public_field g.names known fs
 fields_hold g known earlier at [] [] m = refl
 fields_hold g known earlier at [] (t ∷ ts) m = absurd m
@@ -164,6 +176,7 @@ pub record MadeStruct (g : Lookup) (d : StructDef) (s : StructType) : Type 0 whe
   pub fits : nat_le (field_cells (struct_cells g.structs) s.fields) 65536 ≡ true
   pub deep : nat_lt (field_depth (depths_after [] g.structs) s.fields) 64 ≡ true
 
+-- what is found for a struct
 made_struct : (g : Lookup) (d : StructDef) (s : StructType) → struct_type g d ≡ Ok s → MadeStruct g d s
 made_struct g d s q =
     let y = parted (fields g [] 0 d.fields) _ s q in
@@ -191,6 +204,7 @@ abbrev pub with_all : Lookup → List StructType → Lookup
 with_all g [] = g
 with_all g (s ∷ ss) = with_all (with_struct g s) ss
 
+-- what is found for structs
 made_all : (g : Lookup) (ds : List StructDef) (h : Lookup) → structs_from g ds ≡ Ok h → (ss : List StructType) × MadeAll g ds ss × (h ≡ with_all g ss)
 made_all g [] h q = ([], tt, sym (fine_back g h q))
 made_all g (d ∷ ds) h q =
@@ -198,6 +212,7 @@ made_all g (d ∷ ds) h q =
     let r = made_all (with_struct g z.0) ds h z.2 in
     (z.0 ∷ r.0, (made_struct g d z.0 z.1, r.1), r.2)
 
+-- what stays as structs are judged
 all_structs : (g : Lookup) (ss : List StructType) → (with_all g ss).structs ≡ g.structs ++ ss
 all_structs g [] = sym (append-nil g.structs)
 all_structs g (s ∷ ss) = all_structs (with_struct g s) ss ∙ one_on g.structs ss s
@@ -212,6 +227,7 @@ all_public g (s ∷ ss) = all_public (with_struct g s) ss
 
 -- Cells of a struct more.
 
+-- cells of one struct more
 after_one : (known : List ℕ) (ss : List StructType) (s : StructType) → cells_after known (ss ++ s ∷ []) ≡ cells_after known ss ++ field_cells (cells_after known ss) s.fields ∷ []
 after_one known [] s = refl
 after_one known (r ∷ ss) s = after_one (known ++ field_cells known r.fields ∷ []) ss s
@@ -219,13 +235,12 @@ after_one known (r ∷ ss) s = after_one (known ++ field_cells known r.fields �
 cells_one : (ss : List StructType) (s : StructType) → struct_cells (ss ++ s ∷ []) ≡ struct_cells ss ++ field_cells (struct_cells ss) s.fields ∷ []
 cells_one ss s = after_one [] ss s
 
+-- depths of one struct more
 depth_one : (known : List ℕ) (ss : List StructType) (s : StructType) → depths_after known (ss ++ s ∷ []) ≡ depths_after known ss ++ suc (field_depth (depths_after known ss) s.fields) ∷ []
-depth_one known [] s = ap (λ n. known ++ n ∷ []) (next_number (field_depth known s.fields))
-  where
-    next_number : (n : ℕ) → n + 1 ≡ suc n
-    next_number n = omega arith
+depth_one known [] s = ap (λ n. known ++ n ∷ []) (one_more (field_depth known s.fields))
 depth_one known (r ∷ ss) s = depth_one (known ++ (field_depth known r.fields + 1) ∷ []) ss s
 
+-- there are as many numbers of cells as structs
 after_length : (known : List ℕ) (ss : List StructType) → length (cells_after known ss) ≡ length known + length ss
 after_length known [] = no_more (length known)
   where
@@ -240,9 +255,6 @@ after_length known (s ∷ ss) =
 
 cells_length : (ss : List StructType) → length (struct_cells ss) ≡ length ss
 cells_length ss = after_length [] ss ∙ none_more (length ss)
-  where
-    none_more : (n : ℕ) → 0 + n ≡ n
-    none_more n = omega arith
 
 -- the cells of the first structs stand first
 after_goes : (known : List ℕ) (ss : List StructType) → (more : List ℕ) × (cells_after known ss ≡ known ++ more)
@@ -251,21 +263,18 @@ after_goes known (s ∷ ss) =
     let z = after_goes (known ++ field_cells known s.fields ∷ []) ss in
     (field_cells known s.fields ∷ z.0, z.1 ∙ one_on known z.0 (field_cells known s.fields))
 
+-- cells of structs after others
 after_both : (known : List ℕ) (rs ss : List StructType) → cells_after known (rs ++ ss) ≡ cells_after (cells_after known rs) ss
 after_both known [] ss = refl
 after_both known (r ∷ rs) ss = after_both (known ++ field_cells known r.fields ∷ []) rs ss
 
+-- the first numbers stand first
 index_first : (ms ns : List ℕ) (n : ℕ) → nat_lt n (length ms) ≡ true → slice_index_or (ms ++ ns) n 0 ≡ slice_index_or ms n 0
 index_first [] ns n h = absurd (no_less n h)
-  where
-    no_less : (n : ℕ) → nat_lt n 0 ≡ true → ⊥
-    no_less n e = grind arith
 index_first (m ∷ ms) ns zero h = refl
-index_first (m ∷ ms) ns (suc n) h = index_first ms ns n (less n (length ms) h)
-  where
-    less : (n m : ℕ) → nat_lt (suc n) (suc m) ≡ true → nat_lt n m ≡ true
-    less n m e = grind arith
+index_first (m ∷ ms) ns (suc n) h = index_first ms ns n (one_less n (length ms) h)
 
+-- the first structs keep their cells
 cells_first : (rs ss : List StructType) (n : ℕ) → nat_lt n (length rs) ≡ true → slice_index_or (struct_cells rs) n 0 ≡ slice_index_or (struct_cells (rs ++ ss)) n 0
 cells_first rs ss n h =
     let z = after_goes (struct_cells rs) ss in
@@ -273,23 +282,28 @@ cells_first rs ss n h =
 
 -- Structs among all.
 
+-- the structs above have cells
 least_above : (g : Lookup) → g.above ≡ length g.structs → all is_cells (struct_cells g.structs) ≡ true → Least g (struct_cells g.structs)
 least_above g a h n b e =
     let c = cells_at (struct_cells g.structs) n h (subst (λ m. nat_lt n m ≡ true) (a ∙ sym (cells_length g.structs)) e) in
     first (nat_le 1 (slice_index_or (struct_cells g.structs) n 0)) (nat_le (slice_index_or (struct_cells g.structs) n 0) 65536) c
 
+-- one more stands above
 one_above : (g : Lookup) (s : StructType) → g.above ≡ length g.structs → (with_struct g s).above ≡ length (with_struct g s).structs
 one_above g s a = next g.above (length g.structs) a ∙ sym (length_one g.structs s)
   where
     next : (n m : ℕ) → n ≡ m → n + 1 ≡ suc m
     next n m e = omega arith
 
+-- a struct has from 1 to 65,536 cells
 struct_sized : (g : Lookup) (d : StructDef) (s : StructType) → has_fields d.fields ≡ true → Least g (struct_cells g.structs) → MadeStruct g d s → is_cells (field_cells (struct_cells g.structs) s.fields) ≡ true
 struct_sized g d s b l m = both (fields_least g [] 0 d.fields s.fields b l m.made) m.fits
 
+-- with it each has
 sized_with : (g : Lookup) (s : StructType) → all is_cells (struct_cells g.structs) ≡ true → is_cells (field_cells (struct_cells g.structs) s.fields) ≡ true → all is_cells (struct_cells (g.structs ++ s ∷ [])) ≡ true
 sized_with g s h i = subst (λ l. all is_cells l ≡ true) (sym (cells_one g.structs s)) (all_one is_cells (struct_cells g.structs) (field_cells (struct_cells g.structs) s.fields) h i)
 
+-- all structs have
 all_sized : (g : Lookup) (ds : List StructDef) (ss : List StructType) → GrammaticalStructs ds → g.above ≡ length g.structs → all is_cells (struct_cells g.structs) ≡ true → MadeAll g ds ss → all is_cells (struct_cells (g.structs ++ ss)) ≡ true
 all_sized g [] [] b a h m = subst (λ l. all is_cells (struct_cells l) ≡ true) (sym (append-nil g.structs)) h
 all_sized g [] (s ∷ ss) b a h m = absurd m
@@ -304,6 +318,7 @@ pub record Among (g : Lookup) (all_of : List StructType) : Type 0 where
   pub named : length g.names ≡ length (struct_cells all_of)
   pub sized : all is_cells (struct_cells all_of) ≡ true
 
+-- what is known at a struct
 known_at : (g : Lookup) (ss : List StructType) → Among g (g.structs ++ ss) → g.above ≡ length g.structs → Known g (struct_cells (g.structs ++ ss))
 known_at g ss w a = record {
   named = w.named;
@@ -311,9 +326,11 @@ known_at g ss w a = record {
   above = λ n b e. cells_first g.structs ss n (subst (λ m. nat_lt n m ≡ true) a e);
 }
 
+-- depths
 less_deep : (n : ℕ) → nat_lt n 64 ≡ true → nat_le n 63 ≡ true
 less_deep n h = grind arith
 
+-- structs pass the test
 structs_typed : (g : Lookup) (ds : List StructDef) (ss : List StructType) → GrammaticalStructs ds → g.above ≡ length g.structs → all is_cells (struct_cells g.structs) ≡ true → Among g (g.structs ++ ss) → MadeAll g ds ss
     → are_structs (struct_cells (g.structs ++ ss)) (public_structs (g.structs ++ ss)) (struct_cells g.structs) (depths_after [] g.structs) ss ≡ true
 structs_typed g [] [] b a h w m = refl
@@ -344,6 +361,7 @@ all_hold g known (d ∷ ds) (s ∷ ss) m =
 
 -- Their names.
 
+-- structs have the names of their definitions
 names_made : (g : Lookup) (ds : List StructDef) (ss : List StructType) → MadeAll g ds ss → test.struct_names ss ≡ struct_names ds
 names_made g [] [] m = refl
 names_made g [] (s ∷ ss) m = absurd m
@@ -354,10 +372,12 @@ names_length : (ss : List StructType) → length (test.struct_names ss) ≡ leng
 names_length [] = refl
 names_length (s ∷ ss) = ap (λ n. suc n) (names_length ss)
 
+-- names of one struct more
 names_one : (ss : List StructType) (s : StructType) → test.struct_names (ss ++ s ∷ []) ≡ test.struct_names ss ++ s.name ∷ []
 names_one [] s = refl
 names_one (r ∷ ss) s = ap (λ l. r.name ∷ l) (names_one ss s)
 
+-- lists with more at their end
 pub take_first : {A : Type 0} (xs ys : List A) → take (length xs) (xs ++ ys) ≡ xs
 take_first [] ys = refl
 take_first (x ∷ xs) ys = ap (λ l. x ∷ l) (take_first xs ys)
@@ -368,10 +388,7 @@ all_split f (x ∷ xs) y h =
     let z = all_split f xs y (second (f x) (all f (xs ++ y ∷ [])) h) in
     (both (first (f x) (all f (xs ++ y ∷ [])) h) z.0, z.1)
 
-pub none_left : (ys : List (List ℕ)) → all (λ y. is_new y []) ys ≡ true
-none_left [] = refl
-none_left (y ∷ ys) = none_left ys
-
+-- names of structs differ
 structs_differ : (g : Lookup) (ds : List StructDef) (ss : List StructType) → g.above ≡ length g.structs → g.names ≡ test.struct_names g.structs ++ struct_names ds → MadeAll g ds ss
     → (all (λ y. is_new y (test.struct_names ss)) (test.struct_names g.structs) ≡ true) × (differ (test.struct_names ss) ≡ true)
 structs_differ g [] [] a e m = (none_left (test.struct_names g.structs), refl)
@@ -394,9 +411,11 @@ pub record Structured (ds : List StructDef) (g : Lookup) : Type 0 where
   pub typed : are_structs (struct_cells g.structs) (public_structs g.structs) [] [] g.structs ≡ true
   pub differ : differ (test.struct_names g.structs) ≡ true
 
+-- there are as many numbers of cells as names
 names_list : (ds : List StructDef) (ss : List StructType) → test.struct_names ss ≡ struct_names ds → length (struct_names ds) ≡ length (struct_cells ss)
 names_list ds ss e = sym (ap (λ l. length l) e) ∙ names_length ss ∙ sym (cells_length ss)
 
+-- what is found for the structs of a program
 pub structured : (ds : List StructDef) (g : Lookup) → GrammaticalStructs ds → structs_from (first_lookup ds) ds ≡ Ok g → Structured ds g
 structured ds g b q =
     let z = made_all (first_lookup ds) ds g q in

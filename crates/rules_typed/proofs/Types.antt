@@ -18,9 +18,11 @@ use Rattle.oc_typing.specs.Rules as test
 use Rattle.oc_values.specs.Kinds as kinds
 use Rattle.rules_typed.proofs.Bools.{both, either_null, either_way, first, never, or_none, second}
 
+-- a type is the same as itself
 pub itself : (u : CType) → same true u u ≡ true
 itself u = (same_is_equal u u).itself refl
 
+-- the type of `NULL` is so for the rules and for the test
 pub null_same : (g : Context) (u : CType) → is_of_node g u ≡ true → judging.is_null u ≡ true → test.is_null u ≡ true
 null_same g (Pointer' false v s) h i = i
 null_same g (Pointer' true v (more_of-CType Nothing end_of-CType)) h i = never h
@@ -33,6 +35,7 @@ null_same g (Array' n v s) h i = never i
 null_same g (Struct n) h i = never i
 null_same g Nothing h i = never i
 
+-- what gives no truth value has the kind of its operands
 pub plain_kind : (op : BinaryOp) (k : IntKind) → judging.is_comparison op ≡ false → (result_kind op k ≡ k) × (kind_of_result op k ≡ k)
 plain_kind Less k h = never (sym h)
 plain_kind LessEq k h = never (sym h)
@@ -42,6 +45,7 @@ plain_kind Equal k h = never (sym h)
 plain_kind NotEqual k h = never (sym h)
 plain_kind _ k h = (refl, refl)
 
+-- a comparison gives a truth value
 pub compared_kind : (op : BinaryOp) (k : IntKind) → judging.is_comparison op ≡ true → (result_kind op k ≡ KBool) × (kind_of_result op k ≡ I32)
 compared_kind Less k h = (refl, refl)
 compared_kind LessEq k h = (refl, refl)
@@ -82,6 +86,7 @@ changes g Nothing (Array' m w y) h i s = never i
 changes g Nothing (Struct m) h i s = never i
 changes g Nothing Nothing h i s = never i
 
+-- a public integer is so for the rules and for the test
 pub public_test : (u : CType) → judging.is_public u ≡ true → test.is_public u ≡ true
 public_test (Int k o) h = h
 public_test (Pointer' f v s) h = never h
@@ -89,6 +94,7 @@ public_test (Array' n v s) h = never h
 public_test (Struct n) h = never h
 public_test Nothing h = never h
 
+-- what leads to something is no `NULL`
 pub not_null : (u : CType) → judging.leads u ≡ true → not (test.is_null u) ≡ true
 not_null (Pointer' false v s) h = h
 not_null (Pointer' true v s) h = refl
@@ -97,10 +103,12 @@ not_null (Array' n v s) h = refl
 not_null (Struct n) h = refl
 not_null Nothing h = refl
 
+-- a pointer steps by a public amount
 pub step_test : (u y : CType) → judging.steps u y ≡ true → test.step u u y ≡ true
 step_test u y a =
     both (both (both (itself u) (first (is_pointer u) (not (is_nothing (target u))) (first (judging.leads u) (judging.is_public y) a))) (not_null u (first (judging.leads u) (judging.is_public y) a))) (public_test y (second (judging.leads u) (judging.is_public y) a))
 
+-- a pointer is no integer
 pub no_address : (u : CType) → is_pointer u ≡ true → judging.is_public u ≡ true → false ≡ true
 no_address (Pointer' f v s) h i = i
 no_address (Int k o) h i = h
@@ -108,6 +116,7 @@ no_address (Array' n v s) h i = h
 no_address (Struct n) h i = h
 no_address Nothing h i = h
 
+-- what asks whether operands are the same is no sum
 pub no_sum : (op : BinaryOp) → judging.is_equality op ≡ true → (judging.is_add op || judging.is_minus op) ≡ false
 no_sum Equal h = refl
 no_sum NotEqual h = refl
@@ -118,6 +127,7 @@ no_add Equal h = refl
 no_add NotEqual h = refl
 no_add _ h = never h
 
+-- what is converted to is held as a whole
 pub held_of : (u y : CType) → judging.converts u y ≡ true → test.is_held y ≡ true
 held_of u (Int k o) h = refl
 held_of u (Pointer' f v s) h = refl
@@ -125,11 +135,13 @@ held_of u (Struct n) h = refl
 held_of u (Array' n v s) h = never (second (is_integer u) false (first (is_integer u && false) (not (is_hidden u) || false) (or_none _ (or_none _ h))))
 held_of u Nothing h = never (second (is_integer u) false (first (is_integer u && false) (not (is_hidden u) || false) (or_none _ (or_none _ h))))
 
+-- a sum and a difference are so for the rules and for the test
 pub sum_same : (op : BinaryOp) → (judging.is_add op || judging.is_minus op) ≡ true → (test.is_addition op || judging.is_minus op) ≡ true
 sum_same Add h = refl
 sum_same Sub h = refl
 sum_same _ h = never h
 
+-- numbers of kinds
 pub not_over : (a b : ℕ) → nat_lt a b ≡ true → nat_le a b ≡ true
 not_over a b h = grind arith
 
@@ -161,6 +173,7 @@ wider_over I16 l h i = never h
 wider_over U16 l h i = never h
 wider_over k l h i = never i
 
+-- a promoted kind is so for the test
 pub promoted_is : (k : IntKind) → is_promoted (promoted k) ≡ true
 promoted_is KBool = refl
 promoted_is I8 = refl
@@ -172,6 +185,7 @@ promoted_is U32 = refl
 promoted_is I64 = refl
 promoted_is U64 = refl
 
+-- the common kind has no lesser number than the promoted first
 pub common_over : (k m : IntKind) → nat_le (number_of_kind (promoted k)) (number_of_kind (judging.common k m)) ≡ true
 common_over k m = wider_over (promoted k) (promoted m) (promoted_is k) (promoted_is m)
 
@@ -183,6 +197,7 @@ pointer_other (Array' n v s) h i = h
 pointer_other (Struct n) h i = h
 pointer_other Nothing h i = h
 
+-- an update of an integer takes an integer that may be stored in it
 pub as_integers : (op : BinaryOp) (u y : CType) → is_integer u ≡ true → judging.takes_update op u y ≡ true → (both_integers u y && (not (is_hidden y) || is_hidden u)) ≡ true
 as_integers op u y i k =
     either_way (both_integers u y && (not (is_hidden y) || is_hidden u)) ((judging.is_add op || judging.is_minus op) && judging.steps u y) (λ a. a)
@@ -194,11 +209,13 @@ value_integer op u y i k = second (is_integer u) (is_integer y) (first (both_int
 pub value_marked : (op : BinaryOp) (u y : CType) → is_integer u ≡ true → judging.takes_update op u y ≡ true → (not (is_hidden y) || is_hidden u) ≡ true
 value_marked op u y i k = second (both_integers u y) (not (is_hidden y) || is_hidden u) (as_integers op u y i k)
 
+-- an update of what is no integer is a step
 pub only_steps : (op : BinaryOp) (u y : CType) → is_integer u ≡ false → judging.takes_update op u y ≡ true → ((judging.is_add op || judging.is_minus op) && judging.steps u y) ≡ true
 only_steps op u y i k =
     either_way (both_integers u y && (not (is_hidden y) || is_hidden u)) ((judging.is_add op || judging.is_minus op) && judging.steps u y)
     (λ a. never (sym i ∙ first (is_integer u) (is_integer y) (first (both_integers u y) (not (is_hidden y) || is_hidden u) a))) (λ b. b) k
 
+-- marks are like themselves
 pub alike_itself : (o : Bool) → alike o o ≡ true
 alike_itself true = refl
 alike_itself false = refl

@@ -24,6 +24,7 @@ use Rattle.type_rules.specs.Lookup.{Lookup, same_name}
 use Rattle.type_rules.specs.Written.{number_from, struct_named, base_kind, base_type, starred, arrays, is_length, are_lengths, cells_of, type_name, field_type, is_frozen_place}
 use Rattle.type_rules.proofs.Laws.{fine_back, not_both, parted}
 use Rattle.rules_typed.proofs.Bools.{never, both, first, second, none_some, some_is}
+use Rattle.rules_typed.proofs.Numbers.{not_zero, no_less, one_less, none_more}
 
 -- an answer after a rule that is kept
 pub needed : {A : Type 0} (p : Spot) (t : TypeRule) (c : Bool) (k : Judged A) (a : A) → next (needs p t c) (λ _. k) ≡ Ok a → (c ≡ true) × (k ≡ Ok a)
@@ -38,8 +39,10 @@ number_bound n (y ∷ ys) x m q = on (same_name y x) q (λ p. number_bound (n + 
   where
     here : (n m k : ℕ) → n ≡ m → nat_lt m (n + suc k) ≡ true
     here n m k e = grind arith
+
     later : (n m k : ℕ) → nat_lt m (n + 1 + k) ≡ true → nat_lt m (n + suc k) ≡ true
     later n m k e = grind arith
+
     on : (b : Bool) → (if b then Some n else number_from (n + 1) ys x) ≡ Some m → (number_from (n + 1) ys x ≡ Some m → nat_lt m (n + 1 + length ys) ≡ true) → nat_lt m (n + suc (length ys)) ≡ true
     on true q f = here n m (length ys) (some_is q)
     on false q f = later n m (length ys) (f q)
@@ -49,9 +52,7 @@ pub data Begins (g : Lookup) (by_value : Bool) : CType → Type 0 where
   integer : {k : _} {o : Bool} → Begins g by_value (Int k o)
   a_struct : {n : ℕ} → nat_lt n (length g.names) ≡ true → (not by_value || nat_lt n g.above) ≡ true → Begins g by_value (Struct n)
 
-none_more : (n : ℕ) → 0 + n ≡ n
-none_more n = omega arith
-
+-- what is found for it
 pub begins : (g : Lookup) (by_value : Bool) (b : BaseName) (u : CType) → base_type g by_value b ≡ Ok u → Begins g by_value u
 begins g by_value b u q = on b.kind q
   where
@@ -60,6 +61,7 @@ begins g by_value b u q = on b.kind q
     at (Some n) f q =
         let z = needed b.spot T1 (not by_value || nat_lt n g.above) (Ok (Struct n)) u q in
         subst (λ u. Begins g by_value u) (fine_back (Struct n) u z.1) (a_struct (f n refl) z.0)
+
     on : (k : BaseKind) → base_kind g by_value b.spot b.obliv k ≡ Ok u → Begins g by_value u
     on (base.Int k) q = subst (λ u. Begins g by_value u) (fine_back (Int k b.obliv) u q) integer
     on (base.Struct x) q = at (number_from 0 g.names x) (λ n p. subst (λ m. nat_lt n m ≡ true) (none_more (length g.names)) (number_bound 0 g.names x n p)) q
@@ -70,17 +72,13 @@ begins g by_value b u q = on b.kind q
 abbrev pub is_cells : ℕ → Bool
 is_cells n = nat_le 1 n && nat_le n 65536
 
+-- each struct of some has its cells
 pub cells_at : (ns : List ℕ) (n : ℕ) → all is_cells ns ≡ true → nat_lt n (length ns) ≡ true → is_cells (slice_index_or ns n 0) ≡ true
-cells_at [] n h e = never (no_less n e)
-  where
-    no_less : (n : ℕ) → nat_lt n 0 ≡ true → false ≡ true
-    no_less n e = grind arith
+cells_at [] n h e = absurd (no_less n e)
 cells_at (m ∷ ns) zero h e = first (is_cells m) (all is_cells ns) h
-cells_at (m ∷ ns) (suc n) h e = cells_at ns n (second (is_cells m) (all is_cells ns) h) (less n (length ns) e)
-  where
-    less : (n m : ℕ) → nat_lt (suc n) (suc m) ≡ true → nat_lt n m ≡ true
-    less n m e = grind arith
+cells_at (m ∷ ns) (suc n) h e = cells_at ns n (second (is_cells m) (all is_cells ns) h) (one_less n (length ns) e)
 
+-- pointers and arrays
 pointer_cells : (ss : List ℕ) (f : Bool) (t : CType) → cells ss (Pointer f t) ≡ 1
 unfolding hidden-the_row-CType-0 hidden
 pointer_cells ss f t = refl
@@ -97,6 +95,7 @@ array_whole : (ss : List ℕ) (n : ℕ) (t : CType) → is_whole ss (Array n t) 
 unfolding hidden-the_row-CType-0 hidden
 array_whole ss n t = refl
 
+-- pointers to a type
 starred_whole : (ss : List ℕ) (f : Bool) (k : ℕ) (t : CType) → is_whole ss t ≡ true → is_whole ss (starred f k t) ≡ true
 starred_whole ss f zero t h = h
 starred_whole ss f (suc k) t h = starred_whole ss f k (Pointer f t) (pointer_whole ss f t ∙ h)
@@ -110,6 +109,7 @@ arrays_same : (ss us : List ℕ) (ns : List ℕ) (t : CType) → cells ss t ≡ 
 arrays_same ss us [] t h = h
 arrays_same ss us (n ∷ ns) t h = array_cells ss n (arrays ns t) ∙ ap (λ c. n * c) (arrays_same ss us ns t h) ∙ sym (array_cells us n (arrays ns t))
 
+-- products of cells
 more_cells : (n c : ℕ) → nat_le 1 n ≡ true → nat_le 1 c ≡ true → nat_le 1 (n * c) ≡ true
 more_cells zero c h i = never h
 more_cells (suc n) c h i = grind arith
@@ -118,12 +118,14 @@ fewer_cells : (n c : ℕ) → nat_le 1 n ≡ true → nat_le (n * c) 65536 ≡ t
 fewer_cells zero c h i = never h
 fewer_cells (suc n) c h i = grind arith
 
+-- arrays of what has a cell have one
 arrays_least : (ss ns : List ℕ) (t : CType) → are_lengths ns ≡ true → nat_le 1 (cells ss t) ≡ true → nat_le 1 (cells ss (arrays ns t)) ≡ true
 arrays_least ss [] t h i = i
 arrays_least ss (n ∷ ns) t h i =
     subst (λ c. nat_le 1 c ≡ true) (sym (array_cells ss n (arrays ns t)))
     (more_cells n (cells ss (arrays ns t)) (first (nat_le 1 n) (nat_le n 65536) (first (is_length n) (are_lengths ns) h)) (arrays_least ss ns t (second (is_length n) (are_lengths ns) h) i))
 
+-- arrays that fit are whole where their elements are
 arrays_whole : (ss ns : List ℕ) (t : CType) → are_lengths ns ≡ true → nat_le 1 (cells ss t) ≡ true → nat_le (cells ss (arrays ns t)) 65536 ≡ true → is_whole ss t ≡ true → is_whole ss (arrays ns t) ≡ true
 arrays_whole ss [] t h i j k = k
 arrays_whole ss (n ∷ ns) t h i j k =
@@ -136,6 +138,7 @@ arrays_whole ss (n ∷ ns) t h i j k =
 -- Normal forms.
 
 mutual
+  -- a type in normal form has the same cells
   normal_cells : (ss : List ℕ) (public : List Bool) (inside : Bool) (t : CType) → cells ss (normal public inside t) ≡ cells ss t
   normal_cells ss public inside (Int k o) = refl
   normal_cells ss public inside (Pointer' f u t) = refl
@@ -148,6 +151,7 @@ mutual
   normal_row_cells ss public inside end_of-CType = refl
 
 mutual
+  -- and is whole alike
   normal_whole : (ss : List ℕ) (public : List Bool) (inside : Bool) (t : CType) → is_whole ss (normal public inside t) ≡ is_whole ss t
   normal_whole ss public inside (Int k o) = refl
   normal_whole ss public inside (Pointer' f u t) = normal_row_whole ss public (inside || f) t
@@ -162,6 +166,7 @@ mutual
   normal_row_whole ss public inside end_of-CType = refl
 
 mutual
+  -- and leads on alike
   normal_starred : (public : List Bool) (inside : Bool) (t : CType) → is_starred (normal public inside t) ≡ is_starred t
   normal_starred public inside (Int k o) = refl
   normal_starred public inside (Pointer' f u t) = refl
@@ -173,6 +178,7 @@ mutual
   normal_row_starred public inside (more_of-CType t ts) = normal_starred public inside t
   normal_row_starred public inside end_of-CType = refl
 
+-- arrays lead on as their elements do
 arrays_starred : (ns : List ℕ) (t : CType) → is_starred (arrays ns t) ≡ is_starred t
 unfolding hidden-the_row-CType-0 hidden
 arrays_starred [] t = refl
@@ -184,6 +190,7 @@ arrays_starred (n ∷ ns) t = arrays_starred ns t
 abbrev pub Least : Lookup → List ℕ → Type 0
 Least g ss = (n : ℕ) → nat_lt n (length g.names) ≡ true → nat_lt n g.above ≡ true → nat_le 1 (slice_index_or ss n 0) ≡ true
 
+-- what begins a type has a cell, starred or not
 begun_least : (g : Lookup) (ss : List ℕ) (f : Bool) (k : ℕ) (u : CType) → Least g ss → Begins g (nat_eq k 0) u → nat_le 1 (cells ss (starred f k u)) ≡ true
 begun_least g ss f zero _ l integer = refl
 begun_least g ss f zero _ l (a_struct {n} b a) = l n b a
@@ -195,16 +202,19 @@ pub record Known (g : Lookup) (sizes : List ℕ) : Type 0 where
   pub sized : all is_cells sizes ≡ true
   pub above : (n : ℕ) → nat_lt n (length g.names) ≡ true → nat_lt n g.above ≡ true → slice_index_or (struct_cells g.structs) n 0 ≡ slice_index_or sizes n 0
 
+-- sizes of structs among all
 sized_at : (g : Lookup) (sizes : List ℕ) (n : ℕ) → Known g sizes → nat_lt n (length g.names) ≡ true → is_cells (slice_index_or sizes n 0) ≡ true
 sized_at g sizes n h e = cells_at sizes n h.sized (subst (λ m. nat_lt n m ≡ true) h.named e)
 
 least_known : (g : Lookup) (sizes : List ℕ) → Known g sizes → Least g sizes
 least_known g sizes h n b a = first (nat_le 1 (slice_index_or sizes n 0)) (nat_le (slice_index_or sizes n 0) 65536) (sized_at g sizes n h b)
 
+-- what begins a type is whole
 begun_whole : (g : Lookup) (sizes : List ℕ) (v : Bool) (u : CType) → Known g sizes → Begins g v u → is_whole sizes u ≡ true
 begun_whole g sizes v _ h integer = refl
 begun_whole g sizes v _ h (a_struct {n} b a) = sized_at g sizes n h b
 
+-- and has the same cells among all structs
 begun_cells : (g : Lookup) (sizes : List ℕ) (f : Bool) (k : ℕ) (u : CType) → Known g sizes → Begins g (nat_eq k 0) u → cells (struct_cells g.structs) (starred f k u) ≡ cells sizes (starred f k u)
 begun_cells g sizes f zero _ h integer = refl
 begun_cells g sizes f zero _ h (a_struct {n} b a) = h.above n b a
@@ -220,11 +230,13 @@ pub record Written (g : Lookup) (frozen : Bool) (stars : ℕ) (u : CType) : Type
   pub begins : Begins g (nat_eq stars 0) base
   pub is : u ≡ normal g.public false (starred frozen stars base)
 
+-- what is found for it
 pub written : (g : Lookup) (w : TypeName) (u : CType) → type_name g w ≡ Ok u → Written g w.base.frozen w.stars u
 written g w u q =
     let z = parted (base_type g (nat_eq w.stars 0) w.base) (λ b. Ok (normal g.public false (starred w.base.frozen w.stars b))) u q in
     record { base = z.0; begins = begins g (nat_eq w.stars 0) w.base z.0 z.1; is = sym (fine_back _ u z.2) }
 
+-- it is a type
 pub written_good : (g : Lookup) (structs : List StructType) (sizes : List ℕ) (f : Bool) (k : ℕ) (u : CType) → g.public ≡ public_structs structs → Known g sizes → Written g f k u → is_type sizes (public_structs structs) u ≡ true
 written_good g structs sizes f k u e h w =
     subst (λ u. is_type sizes (public_structs structs) u ≡ true) (sym w.is)
@@ -239,6 +251,7 @@ normal_leaf public inside (Array' n u t) = refl
 normal_leaf public inside (Struct n) = refl
 normal_leaf public inside Nothing = refl
 
+-- a type in normal form is a struct alike
 pub struct_of_normal : (public : List Bool) (inside : Bool) (t : CType) → is_struct (normal public inside t) ≡ is_struct t
 struct_of_normal public inside (Int k o) = refl
 struct_of_normal public inside (Pointer' f u t) = refl
@@ -246,6 +259,7 @@ struct_of_normal public inside (Array' n u t) = refl
 struct_of_normal public inside (Struct n) = refl
 struct_of_normal public inside Nothing = refl
 
+-- pointers are leaves
 pointer_leaf : (f : Bool) (t : CType) → is_leaf (Pointer f t) ≡ true
 unfolding hidden-the_row-CType-0 hidden
 pointer_leaf f t = refl
@@ -254,6 +268,7 @@ starred_leaf : (f : Bool) (k : ℕ) (t : CType) → is_leaf t ≡ true → is_le
 starred_leaf f zero t h = h
 starred_leaf f (suc k) t h = starred_leaf f k (Pointer f t) (pointer_leaf f t)
 
+-- no struct, what is written is a leaf
 begun_leaf : (g : Lookup) (f : Bool) (k : ℕ) (u : CType) → Begins g (nat_eq k 0) u → not (is_struct (starred f k u)) ≡ true → is_leaf (starred f k u) ≡ true
 begun_leaf g f zero _ integer h = refl
 begun_leaf g f zero _ (a_struct b a) h = never h
@@ -274,6 +289,7 @@ pub record Declares (g : Lookup) (f : FieldDef) (u : CType) : Type 0 where
   pub fits : nat_le (cells (struct_cells g.structs) (arrays f.dims (starred f.base.frozen f.stars base))) 65536 ≡ true
   pub is : u ≡ normal g.public false (arrays f.dims (starred f.base.frozen f.stars base))
 
+-- what is found for it
 pub declares : (g : Lookup) (f : FieldDef) (u : CType) → field_type g f ≡ Ok u → Declares g f u
 declares g f u q =
     let z = parted (base_type g (nat_eq f.stars 0) f.base) _ u q in
@@ -295,11 +311,13 @@ field_least g f u l d =
     (subst (λ c. nat_le 1 c ≡ true) (sym (normal_cells (struct_cells g.structs) g.public false (arrays f.dims t)))
     (arrays_least (struct_cells g.structs) f.dims t d.lengths (begun_least g (struct_cells g.structs) f.base.frozen f.stars d.base l d.begins)))
 
+-- and it fits
 pub field_fits : (g : Lookup) (f : FieldDef) (u : CType) → Declares g f u → nat_le (cells (struct_cells g.structs) u) 65536 ≡ true
 field_fits g f u d =
     subst (λ u. nat_le (cells (struct_cells g.structs) u) 65536 ≡ true) (sym d.is)
     (subst (λ c. nat_le c 65536 ≡ true) (sym (normal_cells (struct_cells g.structs) g.public false (arrays f.dims (starred f.base.frozen f.stars d.base)))) d.fits)
 
+-- and it is a type
 pub field_good : (g : Lookup) (structs : List StructType) (sizes : List ℕ) (f : FieldDef) (u : CType) → g.public ≡ public_structs structs → Known g sizes → Declares g f u → is_type sizes (public_structs structs) u ≡ true
 field_good g structs sizes f u e h d =
     let t = starred f.base.frozen f.stars d.base in
@@ -313,6 +331,7 @@ begun_starred : (g : Lookup) (v : Bool) (u : CType) → Begins g v u → is_star
 begun_starred g v _ integer = refl
 begun_starred g v _ (a_struct b a) = refl
 
+-- no pointer is a frozen place
 not_marked : (g : Lookup) (b : BaseName) (k : ℕ) (u : CType) → Begins g (nat_eq k 0) u → not (is_frozen_place b k && is_starred (starred b.frozen k u)) ≡ true
 not_marked g b zero u h = subst (λ s. not (b.frozen && true && s) ≡ true) (sym (begun_starred g true u h)) (none b.frozen)
   where
@@ -321,8 +340,6 @@ not_marked g b zero u h = subst (λ s. not (b.frozen && true && s) ≡ true) (sy
     none false = refl
 not_marked g b (suc k) u h = subst (λ z. not (b.frozen && z && is_starred (starred b.frozen k (Pointer b.frozen u))) ≡ true) (sym (not_zero k)) (none b.frozen (is_starred (starred b.frozen k (Pointer b.frozen u))))
   where
-    not_zero : (k : ℕ) → nat_eq (suc k) 0 ≡ false
-    not_zero k = grind arith
     none : (b s : Bool) → not (b && false && s) ≡ true
     none true s = refl
     none false s = refl

@@ -27,7 +27,7 @@ StatementsAreTyped =
     (r : Lookup) (g : Context) (c : StmtNode) (loop : Bool) (p : Spot) (z : Scope)
     → AgreesApart r g → GrammaticalStmt c
     → IfOk (stmt r loop p c z) (λ q. (f : List SlotType) (vis : List ℕ) → Goes q.1.slots f → SeesAll g vis z.seen f
-      → typed.stmt (record g { slots = f }) loop vis q.0.node ≡ true)
+    → typed.stmt (record g { slots = f }) loop vis q.0.node ≡ true)
 
 -- of a program: it breaks a rule, or its typed tree passes the test
 abbrev pub ProgramsAreTyped : Type 0
