@@ -1,0 +1,18 @@
+use Rattle.std.proofs.Common.{◌≡◌, Ok, refl, sym, ap, ◌∙◌}
+use Rattle.std.proofs.lemmas.Result.{err_from_is_err_and}
+use Rattle.type_steps.proofs.Steps.{go, stop}
+use Rattle.type_steps.proofs.operators.bump.Goals as goal
+
+pub returns-in_err-need_steps : goal.returns-in_err-need_steps
+returns-in_err-need_steps c =
+    let q = err_from_is_err_and c.from_residual.result c.from_residual.ensures.1 in
+    stop _ _ c.in_err-need_steps.ensures q.1 q.2
+
+pub returns-in_err-place : goal.returns-in_err-place
+returns-in_err-place c =
+    let q = err_from_is_err_and c.from_residual-in_err-place.result c.from_residual-in_err-place.ensures.1 in
+    go _ _ c.in_ok-need_steps.ensures (stop _ _ c.in_err-place.ensures q.1 q.2)
+
+pub returns : goal.returns
+returns c =
+    go _ _ c.in_ok-need_steps.ensures (go _ _ c.in_ok-place.ensures (c.bumped.ensures))

@@ -1,0 +1,13 @@
+use Rattle.std.proofs.Common.{◌≡◌, Ok, refl, sym, ap, ◌∙◌}
+use Rattle.std.proofs.lemmas.Result.{err_from_is_err_and}
+use Rattle.type_steps.proofs.Steps.{go, stop}
+use Rattle.type_steps.proofs.operators.refer.Goals as goal
+
+pub returns-in_err-place : goal.returns-in_err-place
+returns-in_err-place c =
+    let q = err_from_is_err_and c.from_residual.result c.from_residual.ensures.1 in
+    stop _ _ c.in_err-place.ensures q.1 q.2
+
+pub returns : goal.returns
+returns c =
+    go _ _ c.in_ok-place.ensures (c.referred.ensures)
