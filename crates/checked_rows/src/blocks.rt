@@ -65,8 +65,11 @@ fn check_make<'t>(
     (ty, count): (&'t CType, i128),
     want: Result<u64, MakeRefusal>,
 ) {
-    tally.row(blocks.has_size(ty));
-    tally.row(blocks.make_block(ty, count, true) == want);
+    let sized = blocks.has_size(ty);
+    tally.row(sized);
+    if sized {
+        tally.row(blocks.make_block(ty, count, true) == want);
+    }
 }
 
 /// An address, the leaf that is asked for, and the trap of a load if there is one.
@@ -160,8 +163,11 @@ fn steps_sizes_and_limits(alloc: Global, tally: &mut Tally) -> Result<(), NoMemo
         (Address::Null, 0, 1, Err(TrapKind::M3)),
     ];
     check_offsets(tally, &blocks, &steps);
-    tally.row(blocks.is_live(0));
-    blocks.end_block(0);
+    let live = blocks.is_live(0);
+    tally.row(live);
+    if live {
+        blocks.end_block(0);
+    }
     tally.row(blocks.offset(at(0, 0), 0, 1) == Err(TrapKind::M2));
     Ok(())
 }
@@ -173,12 +179,15 @@ fn copies(alloc: Global, tally: &mut Tally) -> Result<(), NoMemory> {
     let mut blocks = Blocks::new(alloc, &structs, 65536)?;
     check_make(tally, &mut blocks, (&five, 1), Ok(0));
     fill(tally, &mut blocks);
-    tally.row(blocks.has_size(&three));
-    tally.row(matches!(blocks.leaf(&three, 2), Some(CType::Int { obliv: true, .. })));
-    tally.row(blocks.leaf(&three, 3).is_none());
-    tally.row(blocks.check_copy(at(0, 3), at(7, 0), &three) == Err(TrapKind::M2));
-    tally.row(blocks.check_copy(at(0, 3), at(0, 0), &three) == Err(TrapKind::M1));
-    tally.row(blocks.copy_cells(at(0, 1), at(0, 0), &three) == Ok(()));
+    let sized = blocks.has_size(&three);
+    tally.row(sized);
+    if sized {
+        tally.row(matches!(blocks.leaf(&three, 2), Some(CType::Int { obliv: true, .. })));
+        tally.row(blocks.leaf(&three, 3).is_none());
+        tally.row(blocks.check_copy(at(0, 3), at(7, 0), &three) == Err(TrapKind::M2));
+        tally.row(blocks.check_copy(at(0, 3), at(0, 0), &three) == Err(TrapKind::M1));
+        tally.row(blocks.copy_cells(at(0, 1), at(0, 0), &three) == Ok(()));
+    }
     tally.row(hidden_at(&blocks, at(0, 3)) == Ok(1));
     tally.row(hidden_at(&blocks, at(0, 4)) == Ok(5));
     let last = blocks.cell(at(0, 1), 3);
@@ -208,8 +217,11 @@ impl<W: Copy + Default> HiddenCell for Carried<W> {
 fn puts(alloc: Global, tally: &mut Tally) -> Result<(), NoMemory> {
     let (hidden, structs) = (HIDDEN, Items::new(alloc));
     let mut blocks = Blocks::new(alloc, &structs, 1)?;
-    tally.row(blocks.has_size(&hidden));
-    tally.row(blocks.make_block(&hidden, 1, false) == Ok(0));
+    let sized = blocks.has_size(&hidden);
+    tally.row(sized);
+    if sized {
+        tally.row(blocks.make_block(&hidden, 1, false) == Ok(0));
+    }
     if blocks.load(at(0, 0), &hidden).is_ok() {
         blocks.put(at(0, 0), CellValue::Hidden(Carried { wire: true }));
     }

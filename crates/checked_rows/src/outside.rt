@@ -187,8 +187,12 @@ fn lines_in_memory(alloc: Global, tally: &mut Tally) -> Result<(), NoMemory> {
     tally.row(dialer.last().sent() == b"".as_slice());
     let asked = dialer.asked();
     tally.row(asked.len() == 2);
-    tally.row(call_of(&asked[0]) == (false, b"there:1".as_slice()));
-    tally.row(call_of(&asked[1]) == (true, b"here:2".as_slice()));
+    if let Some(first) = asked.get(0) {
+        tally.row(call_of(first) == (false, b"there:1".as_slice()));
+    }
+    if let Some(second) = asked.get(1) {
+        tally.row(call_of(second) == (true, b"here:2".as_slice()));
+    }
     Ok(())
 }
 

@@ -190,8 +190,11 @@ fn transfers(alloc: Global, tally: &mut Tally) -> Result<(), HalfFault> {
     // The last byte of the receiver's file is another.
     let bytes = altered(alloc, &RECEIVER, 73, RECEIVER[73] ^ 1)?;
     let other = read_receiver_half(alloc, bytes.as_slice())?;
-    if sender.tag == receiver.tag && sender.tag == other.tag && other.pads.len() == 3 {
+    let count = sender.pads.len();
+    if sender.tag == receiver.tag && count == receiver.pads.len() {
         tally.row(first_unmatched(&sender, &receiver).is_none());
+    }
+    if sender.tag == other.tag && count == other.pads.len() {
         tally.row(first_unmatched(&sender, &other) == Some(2));
     }
     Ok(())
