@@ -9,6 +9,7 @@ use Rattle.oc_grammar.specs.Headings.{Derives}
 use Rattle.oc_parser.specs.Load.{IsLight}
 use Rattle.oc_parser.specs.Refusals.{HasNoTree}
 use Rattle.oc_typing.specs.declared.program.Typed.{Typed}
+use Rattle.oc_typing.specs.Tree.{TypedTree, tree_of}
 use Rattle.type_rules.specs.ProgramRules.{typed_program}
 use Rattle.scope_rules.specs.InScope.{InScope}
 use Rattle.scope_rules.specs.FirstFault.{first_fault}
@@ -29,15 +30,15 @@ pub record IsParsed (source : List ℕ) (program : Program) : Type 0 where
   pub end : program.end ≡ lexed.end
 
 -- the typed tree of a source
-pub record IsTyped (source : List ℕ) (t : Typed) : Type 0 where
+pub record IsTyped (source : List ℕ) (t : TypedTree) : Type 0 where
   pub program : Program
   pub parsed : IsParsed source program
   pub typed : typed_program program ≡ Ok t
 
 -- a source is accepted with this typed tree: it has tokens, a tree and types, and keeps the rules of scopes
 pub record Accepted (source : List ℕ) (t : Typed) : Type 0 where
-  pub typed : IsTyped source t
-  pub in_scope : InScope t
+  pub typed : IsTyped source (tree_of t)
+  pub in_scope : InScope (tree_of t)
 
 -- this is the first rule that a source breaks, and where: of its tokens, where it has them of its tree, where it has one of its
 -- types, and where it has these of its scopes
@@ -46,4 +47,4 @@ IsRefusedBy source (Lex rule) p = HasNoTokens source rule p
 IsRefusedBy source (Parse rule) p = (lexed : Lexed) × IsLexed source lexed × HasNoTree lexed rule p
 IsRefusedBy source (Types rule) p =
     (program : Program) × IsParsed source program × (typed_program program ≡ Err (record { rule = rule; spot = p }))
-IsRefusedBy source (Scopes rule) p = (t : Typed) × IsTyped source t × (first_fault t ≡ Some (record { rule = rule; spot = p }))
+IsRefusedBy source (Scopes rule) p = (t : TypedTree) × IsTyped source t × (first_fault t ≡ Some (record { rule = rule; spot = p }))

@@ -15,7 +15,7 @@ use Rattle.oc_source.specs.declared.parsed.Program.{Program}
 use Rattle.oc_source.specs.declared.parsed.Stmt.{Stmt}
 use Rattle.oc_typed.specs.declared.typed.TStmt.{TStmt}
 use Rattle.oc_typed.specs.declared.typed.TypedFunction.{TypedFunction}
-use Rattle.oc_typing.specs.declared.program.Typed.{Typed}
+use Rattle.oc_typing.specs.Tree.{TypedTree}
 use Rattle.oc_cells.specs.Types.{is_struct}
 use Rattle.oc_cells.specs.Layout.{struct_cells, field_cells}
 use Rattle.oc_typing.specs.Rules.{field_depth}
@@ -313,7 +313,7 @@ module _ (g : Lookup) where
       then_ok (λ r. bind (statements g cs) (λ ys. pure (r.0 ∷ ys)) r.1) (statement_is g false c.spot c.node s h.0 h.1 h.2)
       ∙ then_err (λ r. pure (h.0 ∷ r.0) r.1) (body_fails cs h.1 x h.3)
 
-abbrev whole : Function → Heading → List TStmt × Scope → Judged TypedFunction
+abbrev whole : Function → Heading → List TStmt × Scope → Judged TypedTreeFunction
 whole f h r = Ok (record { name = f.name; result = h.result; params = length h.params; slots = r.1.slots; obliv = f.obliv; body = r.0 })
 
 abbrev inside : Lookup → Heading → Lookup
@@ -389,19 +389,19 @@ module _ (p : Program) where
   abbrev first : Lookup
   first = first_lookup p.structs
 
-  abbrev tree : Lookup → List TypedFunction → ℕ → Judged Typed
+  abbrev tree : Lookup → List TypedFunction → ℕ → Judged TypedTree
   tree g ts n = Ok (record { structs = g.structs; functions = ts; entry = n })
 
-  abbrev started : Lookup → List Heading → List TypedFunction → Judged Typed
+  abbrev started : Lookup → List Heading → List TypedFunction → Judged TypedTree
   started g hs ts = next (entry p.end (entry_from 0 (bodies_of hs))) (tree g ts)
 
-  abbrev bodied : Lookup → List Heading → Judged Typed
+  abbrev bodied : Lookup → List Heading → Judged TypedTree
   bodied g hs = next (functions_from (with_bodies g hs) p.structs [] p.functions hs) (started g hs)
 
-  abbrev after_structs : Lookup → Judged Typed
+  abbrev after_structs : Lookup → Judged TypedTree
   after_structs g = next (headings_from g p.structs [] p.functions) (bodied g)
 
-  pub program_typed : (t : Typed) → typed_program p ≡ Ok t → ProgramTyping p t
+  pub program_typed : (t : TypedTree) → typed_program p ≡ Ok t → ProgramTyping p t
   unfolding typed_program
   program_typed t h =
       let a = parted (structs_from first p.structs) after_structs t h in
@@ -414,12 +414,12 @@ module _ (p : Program) where
         b.0,
         structs_typed first p.structs a.0 a.1,
         headings_typed a.0 p.structs [] p.functions b.0 b.1,
-        subst (λ ts. FunctionsTyping (with_bodies a.0 b.0) p.structs p.functions b.0 ts) (sym f.2 ∙ ap (λ (u : Typed). u.functions) e) f.1,
-        entered p.end _ d.0 d.1 ∙ ap (λ (u : Typed). Some u.entry) e,
-        sym (ap (λ (u : Typed). u.structs) e),
+        subst (λ ts. FunctionsTyping (with_bodies a.0 b.0) p.structs p.functions b.0 ts) (sym f.2 ∙ ap (λ (u : TypedTree). u.functions) e) f.1,
+        entered p.end _ d.0 d.1 ∙ ap (λ (u : TypedTree). Some u.entry) e,
+        sym (ap (λ (u : TypedTree). u.structs) e),
       )
 
-  pub program_is : (t : Typed) → ProgramTyping p t → typed_program p ≡ Ok t
+  pub program_is : (t : TypedTree) → ProgramTyping p t → typed_program p ≡ Ok t
   unfolding typed_program
   program_is t h =
       then_ok after_structs (structs_are first p.structs h.0 h.2) ∙ then_ok (bodied h.0) (headings_are h.0 p.structs [] p.functions h.1 h.3)

@@ -4,7 +4,7 @@ use Rattle.oc_source.specs.declared.spot.Spot.{Spot}
 use Rattle.oc_source.specs.declared.parsed.StmtNode.{StmtNode}
 use Rattle.oc_source.specs.declared.parsed.Program.{Program}
 use Rattle.oc_typed.specs.declared.typed.TStmt.{TStmt}
-use Rattle.oc_typing.specs.declared.program.Typed.{Typed}
+use Rattle.oc_typing.specs.Tree.{TypedTree}
 use Rattle.type_rules.specs.declared.judging.Refusal.{Refusal}
 use Rattle.type_rules.specs.Lookup.{Lookup}
 use Rattle.type_rules.specs.StatementRules.{Scope, stmt}
@@ -24,5 +24,5 @@ StatementsAreTyped =
 abbrev pub ProgramsAreJudged : Type 0
 ProgramsAreJudged =
     (p : Program)
-    → ((t : Typed) → (typed_program p ≡ Ok t → ProgramTyping p t) × (ProgramTyping p t → typed_program p ≡ Ok t))
+    → ((t : TypedTree) → (typed_program p ≡ Ok t → ProgramTyping p t) × (ProgramTyping p t → typed_program p ≡ Ok t))
     × ((x : Refusal) → (typed_program p ≡ Err x → ProgramFault p x) × (ProgramFault p x → typed_program p ≡ Err x))

@@ -13,7 +13,7 @@ use Rattle.oc_source.specs.declared.parsed.Program.{Program}
 use Rattle.oc_source.specs.declared.parsed.Stmt.{Stmt}
 use Rattle.oc_typed.specs.declared.typed.TStmt.{TStmt}
 use Rattle.oc_typed.specs.declared.typed.TypedFunction.{TypedFunction}
-use Rattle.oc_typing.specs.declared.program.Typed.{Typed}
+use Rattle.oc_typing.specs.Tree.{TypedTree}
 use Rattle.oc_cells.specs.Types.{is_struct}
 use Rattle.oc_cells.specs.Layout.{struct_cells, field_cells}
 use Rattle.oc_typing.specs.Rules.{field_depth}
@@ -103,7 +103,7 @@ abbrev pub with_bodies : Lookup → List Heading → Lookup
 with_bodies g hs = record g { bodies = bodies_of hs }
 
 -- t is the typed tree of a program
-abbrev pub ProgramTyping : Program → Typed → Type 0
+abbrev pub ProgramTyping : Program → TypedTree → Type 0
 ProgramTyping p t =
     (g : Lookup) × (hs : List Heading) × StructsTyping (first_lookup p.structs) p.structs g × HeadingsTyping g p.structs [] p.functions hs
     × FunctionsTyping (with_bodies g hs) p.structs p.functions hs t.functions × (entry_from 0 (bodies_of hs) ≡ Some t.entry)

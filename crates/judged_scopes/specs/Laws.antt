@@ -1,10 +1,10 @@
 -- The rules of scopes as a relation and as a first fault are one.
 use Rattle.std.specs.Prelude.{◌≡◌, Option, Some, None}
-use Rattle.oc_typing.specs.declared.program.Typed.{Typed}
+use Rattle.oc_typing.specs.Tree.{TypedTree}
 use Rattle.scope_rules.specs.declared.rules.ScopeFault.{ScopeFault}
 use Rattle.scope_rules.specs.InScope.{InScope}
 use Rattle.scope_rules.specs.FirstFault.{first_fault}
 
 -- a program that keeps the rules has no first fault, and one without a first fault keeps them
 abbrev pub ScopesAreJudged : Type 0
-ScopesAreJudged = (t : Typed) → (InScope t → first_fault t ≡ None) × (first_fault t ≡ None → InScope t)
+ScopesAreJudged = (t : TypedTree) → (InScope t → first_fault t ≡ None) × (first_fault t ≡ None → InScope t)

@@ -15,7 +15,7 @@ use Rattle.oc_typed.specs.declared.typed.TStmt.{TStmt}
 use Rattle.oc_typed.specs.declared.typed.TStmtNode.{TStmtNode, Declare, Express, Block', If', OblivIf', Always', While', For', Return, Break, Continue, Empty, Row_of-TStmt, end_of-TStmt, more_of-TStmt, Held-TStmtNode-If-2, None', Some'}
 use Rattle.oc_typed.specs.declared.typed.TypedFunction.{TypedFunction}
 use Rattle.oc_typed.specs.Visible.{after_all, after_node, after_header, after_params}
-use Rattle.oc_typing.specs.declared.program.Typed.{Typed}
+use Rattle.oc_typing.specs.Tree.{TypedTree}
 use Rattle.oc_typing.specs.Rules.{all}
 use Rattle.oc_typing.specs.Typed.{Context, context, param_types, slots_of, slots_of_header, slots_in, slots_in_part, slots_in_rows, slots_in_other, slots_in_all, alone, initial, declares, header, maybe, condition, valued, back, stmt, part, rows, other, stmts, function, is_typed}
 use Rattle.sound_runs.proofs.Bools.{first, second, never}

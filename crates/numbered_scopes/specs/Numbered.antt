@@ -8,7 +8,7 @@ use Rattle.oc_typed.specs.declared.typed.TForInit.TheVariants.{Nothing as NoInit
 use Rattle.oc_typed.specs.declared.typed.TStmt.{TStmt}
 use Rattle.oc_typed.specs.declared.typed.TStmtNode.{TStmtNode, Declare, Express, Block', If', OblivIf', Always', While', For', Return, Break, Continue, Empty, Row_of-TStmt, end_of-TStmt, more_of-TStmt, Held-TStmtNode-If-2, None', Some'}
 use Rattle.oc_typed.specs.declared.typed.TypedFunction.{TypedFunction}
-use Rattle.oc_typing.specs.declared.program.Typed.{Typed}
+use Rattle.oc_typing.specs.Tree.{TypedTree}
 use Rattle.oc_typing.specs.Typed.{Context, context}
 use Rattle.scope_rules.specs.declared.rules.ScopeRule.TheVariants.{F4}
 use Rattle.scope_rules.specs.declared.rules.ScopeFault.{ScopeFault}
@@ -118,5 +118,5 @@ numbered_functions structs fs [] = []
 numbered_functions structs fs (f ∷ rest) = numbered_function structs fs f ++ numbered_functions structs fs rest
 
 -- the first rule of scopes that a program breaks, and where, if it breaks one
-unfoldable pub numbered_fault : Typed → Option ScopeFault
+unfoldable pub numbered_fault : TypedTree → Option ScopeFault
 numbered_fault t = first_broken (numbered_functions t.structs t.functions t.functions)

@@ -34,7 +34,7 @@ use Rattle.type_rules.specs.Calls.{called, Called, Variable, Unknown, Print, Own
 use Rattle.type_rules.specs.Written.{type_name}
 use Rattle.type_rules.specs.Rules.{expr, one, value, passed, given, printing, printed, headed, text_of, sized, params_of, wants_of, invoked}
 use Rattle.rules_typed.specs.Grammatical.{Computes, Grammatical, GrammaticalAll}
-use Rattle.rules_typed.specs.Laws.{ExpressionsAreTyped}
+use Rattle.rules_typed.specs.Laws.{ExpressionsPass}
 use Rattle.oc_typed.specs.declared.typed.TExprNode as t
 use Rattle.oc_typed.specs.declared.typed.TPlaceNode as place
 use Rattle.type_rules.specs.Judging as judging
@@ -347,5 +347,5 @@ module _ (r : Lookup) (g : Context) (vis : List ℕ) (fits : Agrees r g vis) whe
     size_good (Binary' op _ l _ k) h = product_good (rules.sizeof_row l) (rules.sizeof_row k) (one r l) (one r k) (one_good l h.0) (one_good k h.1)
     size_good _ h = wrong_good want.Bytes
 
-pub expressions_typed : ExpressionsAreTyped
+pub expressions_typed : ExpressionsPass
 expressions_typed r g vis n a p fits h = expr_good r g vis fits n a p h

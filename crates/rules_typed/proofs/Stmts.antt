@@ -40,7 +40,7 @@ use Rattle.oc_typing.specs.Typed.{Context, alone, has_type}
 use Rattle.oc_typing.specs.Typed as typed
 use Rattle.rules_typed.specs.Grammatical.{Grammatical, GrammaticalOption, GrammaticalDeclared, GrammaticalHeader, is_declaration, GrammaticalStmt, GrammaticalPart, GrammaticalRows, GrammaticalOther}
 use Rattle.rules_typed.specs.Agreeing.{Valued, GoodVariable, Agrees, Goes, AgreesApart, SeesAll}
-use Rattle.rules_typed.specs.Laws.{StatementsAreTyped}
+use Rattle.rules_typed.specs.Laws.{StatementsPass}
 use Rattle.rules_typed.proofs.Used.{value_used}
 use Rattle.rules_typed.proofs.Bools.{both, either, first, hidden_last, last, never, none_some, some_is, some_none, three}
 use Rattle.rules_typed.proofs.Types.{held_of, itself, public_test}
@@ -628,7 +628,7 @@ module _ (r : Lookup) (g : Context) (around : AgreesApart r g) where
     rows_done (more_of-Stmt p n rest) loop z h = rows_more (is_declaration n) loop z (walk.stmt r loop p n) (walk.stmts r loop rest) (stmt_done n loop p z h.0) (λ t. rows_done rest loop t h.1)
 
 -- so each statement passes
-pub statements_typed : StatementsAreTyped
+pub statements_typed : StatementsPass
 statements_typed r g c loop p z around h = shown (walk.stmt r loop p c z) (stmt_done r g around c loop p z h)
   where
     shown : (m : Judged (made_stmt.TStmt × Scope)) → IfOk m (λ q. Done r g around (is_declaration c) loop z q.0 q.1) → IfOk m (λ q. (f : List SlotType) (vis : List ℕ) → Goes q.1.slots f → SeesAll g vis z.seen f → typed.stmt (record g { slots = f }) loop vis q.0.node ≡ true)

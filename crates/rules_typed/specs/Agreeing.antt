@@ -62,7 +62,8 @@ Goes a f = (b : List SlotType) × (f ≡ a ++ b)
 
 -- the rules look up what the context has whatever variables are visible, among any slots
 pub record AgreesApart (r : Lookup) (g : Context) : Type 0 where
-  pub fields : (ss : List Seen) (f : List SlotType) (u : CType) (x : List ℕ) → GoodField (record g { slots = f }) (field_in (record r { seen = ss }) u x) u
+  pub fields : (ss : List Seen) (f : List SlotType) (u : CType) (x : List ℕ)
+      → GoodField (record g { slots = f }) (field_in (record r { seen = ss }) u x) u
   pub types : (ss : List Seen) (w : TypeName) (u : CType) → type_name (record r { seen = ss }) w ≡ Ok u → is_type g.sizes g.public u ≡ true
   pub declared : (d : FieldDef) (u : CType) → field_type r d ≡ Ok u
       → is_slot g.sizes g.public (record { ty = u; frozen = is_frozen_place d.base d.stars }) ≡ true

@@ -17,7 +17,7 @@ use Rattle.oc_source.specs.declared.parsed.Stmt.{Stmt, roll-Stmt}
 use Rattle.oc_source.specs.declared.parsed.StmtNode.{StmtNode, Row_of-Stmt, end_of-Stmt, more_of-Stmt}
 use Rattle.oc_source.specs.declared.parsed.Function.{Function}
 use Rattle.oc_source.specs.declared.parsed.Program.{Program}
-use Rattle.oc_typing.specs.declared.program.Typed.{Typed}
+use Rattle.oc_typing.specs.Tree.{TypedTree}
 use Rattle.type_rules.specs.Judging.{Judged}
 use Rattle.type_rules.specs.ProgramRules.{typed_program}
 use Rattle.scope_rules.specs.declared.rules.ScopeRule.{ScopeRule}
@@ -96,7 +96,7 @@ abbrev pub source : List StructDef → List Function → ℕ → Program
 source ds fs n = record { structs = ds; functions = fs; end = at n }
 
 -- a source with a typed tree whose first fault in scopes is this one, if it has one
-abbrev pub Shows : Judged Typed → Option ScopeFault → Type 0
+abbrev pub Shows : Judged TypedTree → Option ScopeFault → Type 0
 Shows (Ok t) fault = first_fault t ≡ fault
 Shows (Err f) fault = ⊥
 

@@ -14,7 +14,7 @@ use Rattle.oc_typed.specs.declared.typed.TStmtNode.{TStmtNode, Declare, Express,
 use Rattle.oc_typed.specs.declared.typed.TypedFunction.{TypedFunction}
 use Rattle.oc_typed.specs.Static.{types_of, spot_of}
 use Rattle.oc_typed.specs.Visible.{after_node, after_header, after_params}
-use Rattle.oc_typing.specs.declared.program.Typed.{Typed}
+use Rattle.oc_typing.specs.Tree.{TypedTree}
 use Rattle.oc_typing.specs.Typed.{Context, context, param_types}
 use Rattle.scope_rules.specs.declared.rules.ScopeRule.{ScopeRule}
 use Rattle.scope_rules.specs.declared.rules.ScopeRule.TheVariants.{F1, F2, F3, F4, F5}
@@ -160,5 +160,5 @@ first_broken [] = None
 first_broken (v ∷ vs) = if v.kept then first_broken vs else Some (record { rule = v.rule; spot = v.spot })
 
 -- the first rule of scopes that a typed program breaks, and where, if it breaks one
-unfoldable pub first_fault : Typed → Option ScopeFault
+unfoldable pub first_fault : TypedTree → Option ScopeFault
 first_fault t = first_broken (visits_functions t.structs t.functions t.functions)

@@ -16,7 +16,7 @@ use Rattle.oc_typed.specs.declared.typed.TStmtNode.{TStmtNode, Declare, Express,
 use Rattle.oc_typed.specs.declared.typed.TypedFunction.{TypedFunction}
 use Rattle.oc_typed.specs.Static.{types_of}
 use Rattle.oc_typed.specs.Visible.{after_node, after_header, after_params}
-use Rattle.oc_typing.specs.declared.program.Typed.{Typed}
+use Rattle.oc_typing.specs.Tree.{TypedTree}
 use Rattle.oc_typing.specs.Typed.{Context, context, param_types}
 use Rattle.scope_rules.specs.Frozen.{Facts, of_body, of_part, of_always, in_loop, from_frozen, loses, loses_one, is_kept, is_marked, leaves_part}
 
@@ -155,5 +155,5 @@ FunctionInScope structs fs f =
     StmtsInScope (context structs fs f) (of_body f.obliv) (after_params [] 0 (param_types f)) f.body
 
 -- a typed program keeps the rules of hidden scopes and frozen places: each of its functions does
-abbrev pub InScope : Typed → Type 0
+abbrev pub InScope : TypedTree → Type 0
 InScope t = (n : ℕ) (f : TypedFunction) → slice_get t.functions n ≡ Some f → FunctionInScope t.structs t.functions f

@@ -10,7 +10,7 @@ use Rattle.oc_source.specs.declared.parsed.Function.{Function}
 use Rattle.oc_source.specs.declared.parsed.Program.{Program}
 use Rattle.oc_typed.specs.declared.typed.TStmt as typed
 use Rattle.oc_typed.specs.declared.typed.TypedFunction.{TypedFunction}
-use Rattle.oc_typing.specs.declared.program.Typed.{Typed}
+use Rattle.oc_typing.specs.Tree.{TypedTree}
 use Rattle.type_rules.specs.declared.judging.TypeRule.TheVariants.{T10}
 use Rattle.type_rules.specs.declared.judging.Heading.{Heading}
 use Rattle.type_rules.specs.Judging.{Judged, next, breaks, is_nothing}
@@ -79,7 +79,7 @@ first_lookup ds =
     }
 
 -- the typed tree of a program, or its first fault
-unfoldable pub typed_program : Program → Judged Typed
+unfoldable pub typed_program : Program → Judged TypedTree
 typed_program p =
     next (structs_from (first_lookup p.structs) p.structs) (λ g.
     next (headings_from g p.structs [] p.functions) (λ hs.
