@@ -1,0 +1,6 @@
+pub mod Numbering
+pub mod Counting
+pub mod Forms
+pub mod Room
+pub mod Firsts
+pub mod Pushing
