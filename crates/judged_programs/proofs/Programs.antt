@@ -313,7 +313,7 @@ module _ (g : Lookup) where
       then_ok (λ r. bind (statements g cs) (λ ys. pure (r.0 ∷ ys)) r.1) (statement_is g false c.spot c.node s h.0 h.1 h.2)
       ∙ then_err (λ r. pure (h.0 ∷ r.0) r.1) (body_fails cs h.1 x h.3)
 
-abbrev whole : Function → Heading → List TStmt × Scope → Judged TypedTreeFunction
+abbrev whole : Function → Heading → List TStmt × Scope → Judged TypedFunction
 whole f h r = Ok (record { name = f.name; result = h.result; params = length h.params; slots = r.1.slots; obliv = f.obliv; body = r.0 })
 
 abbrev inside : Lookup → Heading → Lookup
