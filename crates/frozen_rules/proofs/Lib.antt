@@ -1,0 +1,12 @@
+pub mod Tables
+pub mod Sequences
+pub mod Tests
+pub mod Forms
+pub mod Weight
+pub mod Falls
+pub mod Views
+pub mod Nodes
+pub mod Rests
+pub mod Parts
+pub mod Loops
+pub mod Programs
