@@ -1,8 +1,9 @@
 pub mod InputForm
 pub mod Fronts
-pub mod Stages
-pub mod Files
-pub mod Causes
+pub mod Steps
+pub mod FileForms
+pub mod ClearRuns
+pub mod DealtFiles
 pub mod Completing
-pub mod DealFiles
 pub mod Refusing
+pub mod ProcessWords

@@ -13,9 +13,9 @@ use Rattle.oc_parser.specs.Load.{IsLight}
 use Rattle.oc_parser.specs.Refusals.{HasNoTree}
 use Rattle.oc_parser.specs.Trees.{IsTree}
 use Rattle.first_form.specs.First.{First}
-use Rattle.oblivc_main.specs.declared.stop.Rule.{Rule}
-use Rattle.oblivc_main.specs.declared.stop.Rule.TheVariants as rule
-use Rattle.oblivc_main.specs.declared.stop.Refusal.{Refusal}
+use Rattle.oblivc_main.specs.declared.refusal.Rule.{Rule}
+use Rattle.oblivc_main.specs.declared.refusal.Rule.TheVariants as rule
+use Rattle.oblivc_main.specs.declared.refusal.Refusal.{Refusal}
 use Rattle.oblivc_main.specs.Sources.{IsLexed, IsParsed, IsTyped, IsAccepted, IsRefused, Breaks}
 
 -- of its tokens

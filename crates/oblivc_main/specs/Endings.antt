@@ -1,125 +1,98 @@
--- How the command `clear` ends, and why.
-use Rattle.std.specs.Prelude.{ℕ, ◌≡◌, ◌≤◌, ℤ, List, [], ◌∷◌, length, take, Option, Result, Ok, Err, ◌⊎◌}
+-- How a command ends, and why: one of five ways, over what it reads, makes and means.
+use Rattle.std.specs.Prelude.{ℕ, ◌≡◌, ◌≤◌, List, length, take, Option, ◌⊎◌}
+use Rattle.std.specs.List.{AllZip, AllByRecursion}
 use Rattle.oc_outside.specs.Counts.{Rose}
 use Rattle.oc_outside.specs.Told.{appended}
 use Rattle.oc_outside.specs.Sinks.{OnDone, OnEndFailed, UnlessDone, UnlessEndFailed}
 use Rattle.oc_outside.specs.declared.sinks.PutEnd.{PutEnd}
-use Rattle.first_tree.specs.declared.run.ShownItem.{ShownItem}
-use Rattle.first_tree.specs.declared.run.ClearSetup.{ClearSetup}
-use Rattle.first_tree.specs.declared.outcome.Outcome.TheVariants.{Done}
-use Rattle.first_tree.specs.declared.program.Typed.{Typed}
-use Rattle.first_tree.specs.Clear.{Clear}
-use Rattle.first_tree.specs.Shown.{shown}
-use Rattle.clear_run.specs.declared.run.ClearRun.{ClearRun}
-use Rattle.dealt_transfer.specs.Halves.{most_transfers}
-use Rattle.oblivcc_commands.specs.Asked.{ClearAsked}
-use Rattle.oblivc_main.specs.Reading.{Told, Accepts, Refuses, HasWord, HasNoWord, Unreadable}
-use Rattle.oblivc_main.specs.declared.stop.Stop.{Stop}
-use Rattle.oblivc_main.specs.declared.stop.Stop.TheVariants.{Refused, Unread, WrongInput, Unwritten, NoMemory}
-use Rattle.oblivc_main.specs.declared.stop.Which.{Which}
-use Rattle.oblivc_main.specs.declared.stop.Which.TheVariants.{Source, First, Second}
+use Rattle.oblivcc_commands.specs.declared.asked.Asked.{Asked}
+use Rattle.oblivc_main.specs.Reading.{Told, Files, IsFile}
+use Rattle.oblivc_main.specs.Forms.{Content}
+use Rattle.oblivc_main.specs.Steps.{Takes, StopsAt, IsReady}
+use Rattle.oblivc_main.specs.Making.{Writing, HoldsAll, IsElsewhere, IsUnwritable}
+use Rattle.oblivc_main.specs.Commands.{steps, made_files, Means}
+use Rattle.oblivc_main.specs.declared.status.Status.{Status}
+use Rattle.oblivc_main.specs.declared.status.Status.TheVariants.{NoMemory, Output as OutputFails}
 
--- a run of one word of each party, with all the transfers and steps that there may be
-abbrev pub setup_of : ℤ → ℤ → ClearSetup
-setup_of first second = record { public = []; first = first ∷ []; second = second ∷ []; dealt = most_transfers; budget = 1000000000 }
-
--- the files of a call: what the vault tells of each name, its faults before and after, the name that failed last, and
--- what `clear` asks for: the names of the source and of the inputs of both parties
-pub record Files : Type 0 where
-  pub told : Told
-  pub faults_before : ℕ
-  pub faults_after : ℕ
-  pub failed : Option (List ℕ)
-  pub asked : ClearAsked
-
--- the output of a call: its faults before and after, and what was written to it before and after
+-- a stream of a call: its faults before and after, and what was written to it before and after
 pub record Output : Type 0 where
   pub faults_before : ℕ
   pub faults_after : ℕ
   pub before : Option (List ℕ)
   pub after : Option (List ℕ)
 
--- the source is accepted, both inputs have their form, and the program shows these items and ends Done
-pub record Shows (f : Files) (items : List ShownItem) : Type 0 where
-  pub tree : Typed
-  pub first_word : ℤ
-  pub second_word : ℤ
-  pub accepted : Accepts f.told f.asked.file tree
-  pub first_input : HasWord f.told f.asked.first first_word
-  pub second_input : HasWord f.told f.asked.second second_word
-  pub meaning : Clear tree (setup_of first_word second_word) items Done
+-- what a command finds and leaves: what the vault tells of each name before and after, the vault's faults before and after
+-- and the name that failed last, and the output
+pub record Outside : Type 0 where
+  pub told : Told
+  pub told_after : Told
+  pub faults_before : ℕ
+  pub faults_after : ℕ
+  pub failed : Option (List ℕ)
+  pub out : Output
 
--- all that the program shows was printed, and no fault rose
-abbrev pub PrintsAll : Files → Output → Type 0
-PrintsAll f o = (items : List ShownItem) × Shows f items × (o.after ≡ appended (shown items) o.before) × (o.faults_after ≡ o.faults_before)
+-- the files of a call
+abbrev pub files_of : Outside → Files
+files_of o = record { told = o.told; faults_before = o.faults_before; faults_after = o.faults_after; failed = o.failed }
 
--- nothing was printed
-abbrev pub PrintsNothing : Output → Type 0
-PrintsNothing o = o.after ≡ o.before
+-- what a call wrote to files
+abbrev pub writing_of : Outside → Writing
+writing_of o = record {
+  before = o.told;
+  after = o.told_after;
+  faults_before = o.faults_before;
+  faults_after = o.faults_after;
+  failed = o.failed;
+}
 
--- a front of what the program shows was printed, which may be nothing or all of it
-abbrev pub PrintsFront : Files → Output → Type 0
-PrintsFront f o = (items : List ShownItem) × Shows f items × (n : ℕ) × (n ≤ length (shown items)) × (o.after ≡ appended (take n (shown items)) o.before)
+-- nothing was written to the stream
+abbrev pub IsSilent : Output → Type 0
+IsSilent s = s.after ≡ s.before
 
--- the name of one of the three files
-abbrev pub named : ClearAsked → Which → List ℕ
-named d Source = d.file
-named d First = d.first
-named d Second = d.second
+-- all files that are read have their form, and of them this is to be printed, with this status at the end
+pub record IsMeant (told : Told) (asked : Asked) (bytes : List ℕ) (status : Status) : Type 0 where
+  pub contents : List Content
+  pub taken : AllZip (Takes told) (steps asked) contents
+  pub meant : Means asked contents bytes status
 
--- the name of a file of the call
-abbrev pub name_of : Files → Which → List ℕ
-name_of f which = named f.asked which
+-- all that is meant was printed without a fault, and all files were made
+pub record Finishes (o : Outside) (asked : Asked) (status : Status) : Type 0 where
+  pub bytes : List ℕ
+  pub meant : IsMeant o.told asked bytes status
+  pub printed : o.out.after ≡ appended bytes o.out.before
+  pub faultless : o.out.faults_after ≡ o.out.faults_before
+  pub made : HoldsAll o.told_after (made_files asked)
 
--- what was read before a file
-abbrev pub ReadsUpTo : Files → Which → Type 0
-ReadsUpTo f Source = Unit {0}
-ReadsUpTo f First = (t : Typed) × Accepts f.told f.asked.file t
-ReadsUpTo f Second = (t : Typed) × Accepts f.told f.asked.file t × (word : ℤ) × HasWord f.told f.asked.first word
+-- a front of what is to be printed was printed, which may be nothing or all of it
+pub record PrintsFront (o : Outside) (asked : Asked) : Type 0 where
+  pub bytes : List ℕ
+  pub status : Status
+  pub meant : IsMeant o.told asked bytes status
+  pub count : ℕ
+  pub within : count ≤ length bytes
+  pub printed : o.out.after ≡ appended (take count bytes) o.out.before
 
--- this file can't be read, and those before it were read and have their form
-abbrev pub IsUnreadable : Files → Which → Type 0
-IsUnreadable f which = ReadsUpTo f which × Unreadable f.told f.faults_before f.faults_after f.failed (name_of f which)
+-- how a command ends: it did all, it stopped at a file that it reads or at one that it makes, the output failed, or memory
+-- was wanting
+pub data Ends (o : Outside) (asked : Asked) (status : Status) : Type 0 where
+  finished : Finishes o asked status → Ends o asked status
+  stopped : StopsAt (files_of o) (steps asked) status → IsSilent o.out → Ends o asked status
+  unmade :
+      (name : List ℕ) → IsFile status name → IsUnwritable (writing_of o) (made_files asked) name → IsSilent o.out
+      → Ends o asked status
+  unwritten : status ≡ OutputFails → Rose o.out.faults_before o.out.faults_after → PrintsFront o asked → Ends o asked status
+  without_memory : status ≡ NoMemory → IsSilent o.out ⊎ PrintsFront o asked → Ends o asked status
 
--- this input file hasn't the form of one word, and the files before it were read and have theirs
-abbrev pub IsWrong : Files → Which → Type 0
-IsWrong f Source = ⊥
-IsWrong f First = ReadsUpTo f First × HasNoWord f.told f.asked.first
-IsWrong f Second = ReadsUpTo f Second × HasNoWord f.told f.asked.second
+-- no fault of the vault or of the output rose
+abbrev pub IsFaultless : Outside → Type 0
+IsFaultless o = (Rose o.faults_before o.faults_after → ⊥) × (Rose o.out.faults_before o.out.faults_after → ⊥)
 
--- the cause of each end
-abbrev pub Ends : Files → Output → Result (Unit {0}) Stop → Type 0
-Ends f o (Ok u) = PrintsAll f o
-Ends f o (Err (Refused r)) = Refuses f.told f.asked.file r × PrintsNothing o
-Ends f o (Err (Unread which)) = IsUnreadable f which × PrintsNothing o
-Ends f o (Err (WrongInput which)) = IsWrong f which × PrintsNothing o
-Ends f o (Err Unwritten) = Rose o.faults_before o.faults_after × PrintsFront f o
-Ends f o (Err NoMemory) = PrintsNothing o ⊎ PrintsFront f o
-
--- what reading the files and running the program answers
-abbrev pub Runs : Files → Result ClearRun Stop → Type 0
-Runs f (Ok run) = Shows f run.shown
-Runs f (Err (Refused r)) = Refuses f.told f.asked.file r
-Runs f (Err (Unread which)) = IsUnreadable f which
-Runs f (Err (WrongInput which)) = IsWrong f which
-Runs f (Err Unwritten) = ⊥
-Runs f (Err NoMemory) = Unit {0}
-
--- what reading the source answers
-abbrev pub ReadSource : Told → ℕ → ℕ → Option (List ℕ) → List ℕ → Result Typed Stop → Type 0
-ReadSource told before after failed file (Ok t) = Accepts told file t
-ReadSource told before after failed file (Err (Refused r)) = Refuses told file r
-ReadSource told before after failed file (Err (Unread Source)) = Unreadable told before after failed file
-ReadSource told before after failed file (Err NoMemory) = Unit {0}
-ReadSource told before after failed file (Err _) = ⊥
-
--- what reading an input file answers
-abbrev pub ReadWord : Told → ℕ → ℕ → Option (List ℕ) → List ℕ → Which → Result ℤ Stop → Type 0
-ReadWord told before after failed name which (Ok word) = HasWord told name word
-ReadWord told before after failed name which (Err (Unread other)) = (other ≡ which) × Unreadable told before after failed name
-ReadWord told before after failed name which (Err (WrongInput other)) = (other ≡ which) × HasNoWord told name
-ReadWord told before after failed name which (Err NoMemory) = Unit {0}
-ReadWord told before after failed name which (Err _) = ⊥
+-- what a command answers: it ends in one of these ways; where all files that it reads have their form and nothing fails it does
+-- all, but for want of memory; and what the vault tells stays, but of the files that it makes
+pub record IsAnswered (o : Outside) (asked : Asked) (status : Status) : Type 0 where
+  pub ended : Ends o asked status
+  pub complete : AllByRecursion (IsReady o.told) (steps asked) → IsFaultless o → Finishes o asked status ⊎ (status ≡ NoMemory)
+  pub kept : (name : List ℕ) → IsElsewhere name (made_files asked) → o.told_after name ≡ o.told name
 
 -- these bytes were printed, or a front of them where the sink refused; the faults never fell, and rose only where it failed
 pub record Printed (bytes : List ℕ) (r : PutEnd) (faults_before faults_after : ℕ) (before after : Option (List ℕ)) : Type 0 where

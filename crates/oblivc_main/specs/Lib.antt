@@ -2,7 +2,14 @@ pub mod Inputs
 pub mod InputParts
 pub mod Sources
 pub mod Reading
+pub mod Forms
+pub mod Steps
+pub mod Making
+pub mod Clearing
+pub mod Dealing
+pub mod Commands
 pub mod Endings
-pub mod DealEndings
 pub mod Lines
+pub mod Saying
 pub mod Statuses
+pub mod Arguments

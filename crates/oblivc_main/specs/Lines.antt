@@ -3,9 +3,9 @@ use Rattle.std.specs.Prelude.{ℕ, List, [], ◌∷◌, ◌++◌, codes}
 use Rattle.std.specs.Fmt.{decimal}
 use Rattle.oc_lexer.specs.declared.token.LexRule.TheVariants.{L1, L2, L3, L4, L5, L6}
 use Rattle.oc_parser.specs.declared.ParseRule.TheVariants.{G1, G2}
-use Rattle.oblivc_main.specs.declared.stop.Rule.{Rule}
-use Rattle.oblivc_main.specs.declared.stop.Rule.TheVariants.{Lex, Parse, First}
-use Rattle.oblivc_main.specs.declared.stop.Refusal.{Refusal}
+use Rattle.oblivc_main.specs.declared.refusal.Rule.{Rule}
+use Rattle.oblivc_main.specs.declared.refusal.Rule.TheVariants.{Lex, Parse, First}
+use Rattle.oblivc_main.specs.declared.refusal.Refusal.{Refusal}
 
 -- `usage K`: the words aren't a command
 abbrev pub usage_line : ℕ → List ℕ
@@ -25,7 +25,8 @@ rule_name First = codes "X1"
 
 -- `refused RULE LINE:COLUMN`: the source is refused
 abbrev pub refused_line : Refusal → List ℕ
-refused_line r = codes "refused " ++ rule_name r.rule ++ codes " " ++ decimal r.spot.line ++ codes ":" ++ decimal r.spot.column ++ codes "\n"
+refused_line r =
+    codes "refused " ++ rule_name r.rule ++ codes " " ++ decimal r.spot.line ++ codes ":" ++ decimal r.spot.column ++ codes "\n"
 
 -- `file NAME`: a file can't be read or written
 abbrev pub file_line : List ℕ → List ℕ

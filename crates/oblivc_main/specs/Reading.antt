@@ -1,10 +1,8 @@
--- What the files of a command hold, as far as a vault tells it, and what that means for the command.
-use Rattle.std.specs.Prelude.{ℕ, ◌≡◌, ℤ, List, Option, Some, None, IfSome, ◌⊎◌}
+-- What a vault tells of files, and what reading one of them answers.
+use Rattle.std.specs.Prelude.{ℕ, ◌≡◌, List, take, Option, Some, None, IfSome, Result, Ok, Err, ◌⊎◌}
 use Rattle.oc_outside.specs.Counts.{Rose}
-use Rattle.first_tree.specs.declared.program.Typed.{Typed}
-use Rattle.oblivc_main.specs.declared.stop.Refusal.{Refusal}
-use Rattle.oblivc_main.specs.Sources.{IsAccepted, IsRefused}
-use Rattle.oblivc_main.specs.Inputs.{IsInput}
+use Rattle.oblivc_main.specs.declared.status.Status.{Status}
+use Rattle.oblivc_main.specs.declared.status.Status.TheVariants.{File, NoMemory}
 
 -- what a vault tells of each name: None where nothing is told, Some None where the name holds nothing
 abbrev pub Told : Type 0
@@ -18,22 +16,25 @@ Holds told name bytes = IfSome (told name) (λ held. held ≡ Some bytes)
 abbrev pub IsAbsent : Told → List ℕ → Type 0
 IsAbsent told name = IfSome (told name) (λ held. held ≡ None)
 
--- the source of this name has this tree, and breaks no rule
-abbrev pub Accepts : Told → List ℕ → Typed → Type 0
-Accepts told file t = (source : List ℕ) × Holds told file source × IsAccepted source t
-
--- the source of this name is refused so
-abbrev pub Refuses : Told → List ℕ → Refusal → Type 0
-Refuses told file r = (source : List ℕ) × Holds told file source × IsRefused source r
-
--- the input file has the form of this word
-abbrev pub HasWord : Told → List ℕ → ℤ → Type 0
-HasWord told name word = (bytes : List ℕ) × Holds told name bytes × IsInput bytes word
-
--- the input file hasn't the form of any word
-abbrev pub HasNoWord : Told → List ℕ → Type 0
-HasNoWord told name = (bytes : List ℕ) × Holds told name bytes × ((word : ℤ) → IsInput bytes word → ⊥)
+-- the files of a call: what the vault tells of each name, its faults before and after, and the name that failed last
+pub record Files : Type 0 where
+  pub told : Told
+  pub faults_before : ℕ
+  pub faults_after : ℕ
+  pub failed : Option (List ℕ)
 
 -- a name can't be read: it is absent, or the faults rose and it is the name that failed last
-abbrev pub Unreadable : Told → ℕ → ℕ → Option (List ℕ) → List ℕ → Type 0
-Unreadable told before after failed name = IsAbsent told name ⊎ (Rose before after × IfSome failed (λ last. last ≡ name))
+abbrev pub IsUnreadable : Files → List ℕ → Type 0
+IsUnreadable f name = IsAbsent f.told name ⊎ (Rose f.faults_before f.faults_after × IfSome f.failed (λ last. last ≡ name))
+
+-- the status is `file` with this name
+abbrev pub IsFile : Status → List ℕ → Type 0
+IsFile (File named) name = named.now ≡ name
+IsFile _ name = ⊥
+
+-- what reading up to so many bytes of a file answers
+abbrev pub Fetches : Files → List ℕ → ℕ → Result (List ℕ) Status → Type 0
+Fetches f name limit (Ok bytes) = (whole : List ℕ) × Holds f.told name whole × (bytes ≡ take limit whole)
+Fetches f name limit (Err (File named)) = (named.now ≡ name) × IsUnreadable f name
+Fetches f name limit (Err NoMemory) = Unit {0}
+Fetches f name limit (Err _) = ⊥

@@ -10,11 +10,11 @@ use Rattle.oc_grammar.specs.Headings.{Derives}
 use Rattle.oc_parser.specs.Load.{IsLight}
 use Rattle.oc_parser.specs.Refusals.{HasNoTree}
 use Rattle.first_form.specs.First.{First}
-use Rattle.oblivc_main.specs.declared.stop.Rule.{Rule}
-use Rattle.oblivc_main.specs.declared.stop.Rule.TheVariants as rule
-use Rattle.oblivc_main.specs.declared.stop.Refusal.{Refusal}
-use Rattle.oblivc_main.specs.declared.stop.Stop.{Stop}
-use Rattle.oblivc_main.specs.declared.stop.Stop.TheVariants.{Refused, NoMemory}
+use Rattle.oblivc_main.specs.declared.refusal.Rule.{Rule}
+use Rattle.oblivc_main.specs.declared.refusal.Rule.TheVariants as rule
+use Rattle.oblivc_main.specs.declared.refusal.Refusal.{Refusal}
+use Rattle.oblivc_main.specs.declared.status.Status.{Status}
+use Rattle.oblivc_main.specs.declared.status.Status.TheVariants.{Refused, NoMemory}
 
 -- the tokens of a source, and its end
 pub record IsLexed (source : List ℕ) (lexed : Lexed) : Type 0 where
@@ -39,7 +39,8 @@ pub record IsTyped (source : List ℕ) (t : Typed) : Type 0 where
 abbrev pub Breaks : List ℕ → Rule → Spot → Type 0
 Breaks source (rule.Lex broken) spot = HasNoTokens source broken spot
 Breaks source (rule.Parse broken) spot = (lexed : Lexed) × IsLexed source lexed × HasNoTree lexed broken spot
-Breaks source rule.First spot = ((program : Program) × IsParsed source program × ((t : Typed) → First program t → ⊥)) × (spot ≡ record { line = 1; column = 1 })
+Breaks source rule.First spot =
+    ((program : Program) × IsParsed source program × ((t : Typed) → First program t → ⊥)) × (spot ≡ record { line = 1; column = 1 })
 
 -- the source has this typed tree, and breaks no rule
 pub record IsAccepted (source : List ℕ) (t : Typed) : Type 0 where
@@ -53,7 +54,7 @@ pub record IsRefused (source : List ℕ) (r : Refusal) : Type 0 where
   pub none : (t : Typed) → IsTyped source t → ⊥
 
 -- what reading a source answers
-abbrev pub ReadsTree : List ℕ → Result Typed Stop → Type 0
+abbrev pub ReadsTree : List ℕ → Result Typed Status → Type 0
 ReadsTree source (Ok t) = IsAccepted source t
 ReadsTree source (Err (Refused r)) = IsRefused source r
 ReadsTree source (Err NoMemory) = Unit {0}

@@ -8,26 +8,25 @@
 //!   rule and the place.
 //! - `deal` makes both halves of dealt transfers from a key, and writes each to a file.
 //!
-//! `Answered` in `specs/Statuses.antt` says of each status why it comes and what was written: there is no other
-//! status. `Completes` says that nothing but want of memory stops a command whose files have their form while no
-//! file and no stream fails, and `Keeps` that no file changes but those that `deal` makes. What a source and an input
-//! file have to be stands in `specs/Sources.antt` and `specs/Inputs.antt`, what the words have to be in the crate
-//! `oblivcc_commands`.
+//! `Answered` in `specs/Statuses.antt` says what a call answers: a status that has its cause, and its number and line.
+//! `Ends` in `specs/Endings.antt` has the five ways in which a command ends, over the files that it reads and makes and what it
+//! means of them, which is a row a command in `specs/Commands.antt`. There is no other status, nothing but want of memory stops
+//! a command whose files have their form while nothing fails, and no file changes but those that it makes
+//! (`IsAnswered`). What a source and an input file have to be stands in `specs/Sources.antt` and `specs/Inputs.antt`, what the
+//! words have to be in the crate `oblivcc_commands`. The program `answered_calls` has tables of calls with their answers.
 #![tactic(auto)]
 
 mod arguments;
-mod command;
-mod deal;
+mod clearing;
+mod dealing;
 mod inputs;
+mod making;
 mod printing;
 mod program;
 mod reading;
+mod refusal;
 mod saying;
-mod statuses;
-mod stop;
+mod status;
 
 pub use arguments::serve_process;
 pub use program::oblivcc;
-
-#[cfg(test)]
-mod tests;

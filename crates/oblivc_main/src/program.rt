@@ -1,31 +1,38 @@
 //! The whole program, over any outside.
 
-ghost use Rattle.std.specs.Prelude.{◌≡◌, ◌-◌, ◌^◌, ◌<◌, ℕ};
-ghost use Rattle.command_grammar.specs.Grammar.{Breaks, texts};
-ghost use Rattle.oblivcc_commands.specs.Table.{commands};
-ghost use Rattle.oblivc_main.specs.Lines.{usage_line};
-ghost use Rattle.oblivc_main.specs.Statuses.{Answered, Completes, Keeps, Said};
+ghost use Rattle.std.specs.Prelude.{◌≡◌, ◌≤◌, ◌-◌, ◌^◌, ◌<◌};
+ghost use Rattle.command_grammar.specs.Grammar.{texts};
+ghost use Rattle.oblivc_main.specs.Statuses.{Answered, Serves};
 
-use crate::command::clear;
-use crate::deal::run_deal;
-use crate::saying::{line_for_usage, report, say_line};
-use crate::statuses::{DONE, USAGE};
-use oblivcc_commands::{Asked, find_break, read_command};
+use crate::clearing::clear;
+use crate::dealing::deal;
+use crate::saying::report;
+use crate::status::Status;
+use oblivcc_commands::{Asked, read_command};
 use oc_outside::{Dialer, Sink, Vault};
 use std::alloc::Global;
 
-/// Says that words aren't a command, where the word after them isn't text: no command begins with that one,
-/// if with those before it.
-pub fn refuse_words<E: Sink>(alloc: Global, words: &[String], err: &mut E) -> u8
-    ensures { (k : ℕ) × Breaks commands (texts words.now) k × Said (record {
-      faults_before = E.faults err.old;
-      faults_after = E.faults err.new;
-      before = E.written err.old;
-      after = E.written err.new;
-    }) (usage_line k) 2 result }
+/// Does what the words of a command line ask for.
+fn serve<'w, V: Vault, S: Sink>(
+    alloc: Global,
+    words: &'w [String],
+    files: &mut V,
+    out: &mut S,
+) -> Status<'w>
+    ensures { Serves (texts words.now) (record {
+      told = V.contents files.old;
+      told_after = V.contents files.new;
+      faults_before = V.faults files.old;
+      faults_after = V.faults files.new;
+      failed = V.failed files.new;
+      out = record { faults_before = S.faults out.old; faults_after = S.faults out.new; before = S.written out.old; after = S.written out.new };
+    }) result }
 {
-    let k = find_break(words);
-    say_line(err, line_for_usage(alloc, k), USAGE)
+    match read_command(words) {
+        Ok(Asked::Clear(asked)) => clear(alloc, &asked, files, out),
+        Ok(Asked::Deal(asked)) => deal(alloc, &asked, files),
+        Err(k) => Status::NoCommand(k),
+    }
 }
 
 /// Does what the words of a command line ask for, and answers the status to exit with.
@@ -56,44 +63,21 @@ pub fn oblivcc<V: Vault, D: Dialer, S: Sink, E: Sink>(
     err: &mut E,
 ) -> u8
     requires { D.closed dialer.old < 2 ^ 64 - 1 }
-    ensures answered { Answered (record {
-      words = texts words.now;
+    ensures answered { Answered (texts words.now) (record {
       told = V.contents files.old;
       told_after = V.contents files.new;
       faults_before = V.faults files.old;
       faults_after = V.faults files.new;
       failed = V.failed files.new;
       out = record { faults_before = S.faults out.old; faults_after = S.faults out.new; before = S.written out.old; after = S.written out.new };
-      err = record { faults_before = E.faults err.old; faults_after = E.faults err.new; before = E.written err.old; after = E.written err.new };
+    }) (record {
+      faults_before = E.faults err.old;
+      faults_after = E.faults err.new;
+      before = E.written err.old;
+      after = E.written err.new;
     }) result }
-    ensures completes { Completes (record {
-      words = texts words.now;
-      told = V.contents files.old;
-      told_after = V.contents files.new;
-      faults_before = V.faults files.old;
-      faults_after = V.faults files.new;
-      failed = V.failed files.new;
-      out = record { faults_before = S.faults out.old; faults_after = S.faults out.new; before = S.written out.old; after = S.written out.new };
-      err = record { faults_before = E.faults err.old; faults_after = E.faults err.new; before = E.written err.old; after = E.written err.new };
-    }) result }
-    ensures keeps { Keeps (record {
-      words = texts words.now;
-      told = V.contents files.old;
-      told_after = V.contents files.new;
-      faults_before = V.faults files.old;
-      faults_after = V.faults files.new;
-      failed = V.failed files.new;
-      out = record { faults_before = S.faults out.old; faults_after = S.faults out.new; before = S.written out.old; after = S.written out.new };
-      err = record { faults_before = E.faults err.old; faults_after = E.faults err.new; before = E.written err.old; after = E.written err.new };
-    }) }
     ensures dialer { dialer.new ≡ dialer.old }
 {
-    match read_command(words) {
-        Ok(Asked::Clear(asked)) => match clear(alloc, &asked, files, out) {
-            Ok(()) => DONE,
-            Err(stop) => report(alloc, stop, &asked, err),
-        },
-        Ok(Asked::Deal(asked)) => run_deal(alloc, &asked, files, err),
-        Err(k) => say_line(err, line_for_usage(alloc, k), USAGE),
-    }
+    let status = serve(alloc, words, files, out);
+    report(alloc, status, err)
 }

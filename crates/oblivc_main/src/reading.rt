@@ -1,18 +1,22 @@
 //! Reading the files of a command.
 
 ghost use Rattle.std.specs.Prelude.{◌≡◌, ◌≤◌};
-ghost use Rattle.oblivc_main.specs.declared.stop.Stop.TheVariants as stops;
+ghost use Rattle.oblivc_main.specs.declared.status.Status.TheVariants as statuses;
 ghost use Rattle.oblivc_main.specs.Sources.{ReadsTree};
-ghost use Rattle.oblivc_main.specs.Endings.{ReadSource, ReadWord};
+ghost use Rattle.oblivc_main.specs.Forms.{tree, word};
+ghost use Rattle.oblivc_main.specs.Reading.{Fetches};
+ghost use Rattle.oblivc_main.specs.Steps.{Reads, source_step, input_step};
 
 use crate::inputs::read_input;
-use crate::stop::{Refusal, Rule, Stop, Which};
+use crate::refusal::{Refusal, Rule};
+use crate::status::Status;
 use first_form::read_first;
 use first_tree::Typed;
 use oc_lexer::{LexFault, lex};
 use oc_outside::{FileAnswer, Vault};
 use oc_parser::{ParseFault, parse};
 use oc_source::Spot;
+use oc_values::Items;
 use std::alloc::Global;
 
 /// How many bytes of a source are read: one more than it may have.
@@ -21,65 +25,95 @@ const SOURCE_LIMIT: u64 = 1_048_577;
 /// How many bytes of an input file are read: 65,537 lines of 21 bytes.
 const INPUT_LIMIT: u64 = 1_376_277;
 
-/// The end of a command at a refused source.
-fn refused(rule: Rule, spot: Spot) -> Stop
-    ensures { result ≡ stops.Refused (record { rule = rule; spot = spot }) }
+/// The bytes of a file, or the first of them where it has more than this many.
+fn read_bytes<'n, V: Vault>(
+    alloc: Global,
+    files: &mut V,
+    name: &'n str,
+    limit: u64,
+) -> Result<Items<u8>, Status<'n>>
+    ensures end { Fetches (record {
+      told = V.contents files.old;
+      faults_before = V.faults files.old;
+      faults_after = V.faults files.new;
+      failed = V.failed files.new;
+    }) name.now limit result }
+    ensures never_falls { V.faults files.old ≤ V.faults files.new }
+    ensures unchanged { V.contents files.new ≡ V.contents files.old }
 {
-    Stop::Refused(Refusal { rule, spot })
+    match files.read_file(alloc, name, limit) {
+        FileAnswer::Bytes(bytes) => Ok(bytes),
+        FileAnswer::Absent | FileAnswer::Failed => Err(Status::File(name)),
+        FileAnswer::NoMemory => Err(Status::NoMemory),
+    }
+}
+
+/// The end of a command at a refused source.
+fn refused(rule: Rule, spot: Spot) -> Status<'static>
+    ensures { result ≡ statuses.Refused (record { rule = rule; spot = spot }) }
+{
+    Status::Refused(Refusal { rule, spot })
 }
 
 /// The typed tree of the bytes of a source, or why there is none: its tokens are looked at first, then its tree, and
 /// then the form of the tree.
-fn read_tree(alloc: Global, source: &[u8]) -> Result<Typed, Stop>
+fn read_tree(alloc: Global, source: &[u8]) -> Result<Typed, Status<'static>>
     ensures { ReadsTree source.now result }
 {
     let lexed = match lex(alloc, source) {
         Ok(lexed) => lexed,
         Err(LexFault::Refused { rule, spot }) => return Err(refused(Rule::Lex(rule), spot)),
-        Err(LexFault::NoMemory) => return Err(Stop::NoMemory),
+        Err(LexFault::NoMemory) => return Err(Status::NoMemory),
     };
     let program = match parse(alloc, &lexed) {
         Ok(program) => program,
         Err(ParseFault::Refused { rule, spot }) => return Err(refused(Rule::Parse(rule), spot)),
-        Err(ParseFault::NoMemory) => return Err(Stop::NoMemory),
+        Err(ParseFault::NoMemory) => return Err(Status::NoMemory),
     };
     match read_first(alloc, &program) {
         Ok(Some(typed)) => Ok(typed),
         Ok(None) => Err(refused(Rule::First, Spot { line: 1, column: 1 })),
-        Err(_) => Err(Stop::NoMemory),
+        Err(_) => Err(Status::NoMemory),
     }
 }
 
 /// The typed tree of a source, or why there is none.
-pub fn read_source<V: Vault>(alloc: Global, files: &mut V, file: &str) -> Result<Typed, Stop>
-    ensures end { ReadSource (V.contents files.old) (V.faults files.old) (V.faults files.new) (V.failed files.new) file.now result }
+pub fn read_source<'n, V: Vault>(
+    alloc: Global,
+    files: &mut V,
+    name: &'n str,
+) -> Result<Typed, Status<'n>>
+    ensures end { Reads tree (record {
+      told = V.contents files.old;
+      faults_before = V.faults files.old;
+      faults_after = V.faults files.new;
+      failed = V.failed files.new;
+    }) (source_step name.now) result }
     ensures never_falls { V.faults files.old ≤ V.faults files.new }
     ensures unchanged { V.contents files.new ≡ V.contents files.old }
 {
-    match files.read_file(alloc, file, SOURCE_LIMIT) {
-        FileAnswer::Bytes(bytes) => read_tree(alloc, bytes.as_slice()),
-        FileAnswer::Absent | FileAnswer::Failed => Err(Stop::Unread(Which::Source)),
-        FileAnswer::NoMemory => Err(Stop::NoMemory),
-    }
+    let bytes = read_bytes(alloc, files, name, SOURCE_LIMIT)?;
+    read_tree(alloc, bytes.as_slice())
 }
 
 /// The word of an input file, or why there is none.
-pub fn read_word<V: Vault>(
+pub fn read_word<'n, V: Vault>(
     alloc: Global,
     files: &mut V,
-    name: &str,
-    which: Which,
-) -> Result<i64, Stop>
-    ensures end { ReadWord (V.contents files.old) (V.faults files.old) (V.faults files.new) (V.failed files.new) name.now which result }
+    name: &'n str,
+) -> Result<i64, Status<'n>>
+    ensures end { Reads word (record {
+      told = V.contents files.old;
+      faults_before = V.faults files.old;
+      faults_after = V.faults files.new;
+      failed = V.failed files.new;
+    }) (input_step name.now) result }
     ensures never_falls { V.faults files.old ≤ V.faults files.new }
     ensures unchanged { V.contents files.new ≡ V.contents files.old }
 {
-    match files.read_file(alloc, name, INPUT_LIMIT) {
-        FileAnswer::Bytes(bytes) => match read_input(bytes.as_slice()) {
-            Some(word) => Ok(word),
-            None => Err(Stop::WrongInput(which)),
-        },
-        FileAnswer::Absent | FileAnswer::Failed => Err(Stop::Unread(which)),
-        FileAnswer::NoMemory => Err(Stop::NoMemory),
+    let bytes = read_bytes(alloc, files, name, INPUT_LIMIT)?;
+    match read_input(bytes.as_slice()) {
+        Some(word) => Ok(word),
+        None => Err(Status::Input),
     }
 }

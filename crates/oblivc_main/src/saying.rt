@@ -1,20 +1,18 @@
 //! The line on the error stream.
 
 ghost use Rattle.std.specs.Prelude.{◌≡◌, ℕ, List, IfOk, string_bytes};
-ghost use Rattle.oblivcc_commands.specs.Views.{clear_of};
 ghost use Rattle.oblivc_main.specs.Lines.{usage_line, rule_name, refused_line, file_line, memory_line};
-ghost use Rattle.oblivc_main.specs.Statuses.{Said, line_of, status_of};
+ghost use Rattle.oblivc_main.specs.Saying.{Says, Said};
 
-use crate::statuses::{FILE, INPUT, NO_MEMORY, OUTPUT, REFUSED};
-use crate::stop::{Refusal, Rule, Stop, Which};
-use oblivcc_commands::ClearWords;
+use crate::refusal::{Refusal, Rule};
+use crate::status::{DONE, FILE, INPUT, NO_MEMORY, OUTPUT, REFUSED, Status, USAGE};
 use oc_lexer::LexRule;
 use oc_outside::{PutEnd, Sink, write_all};
 use oc_parser::ParseRule;
 use std::alloc::{AllocError, Global};
 
 /// The line for words that aren't a command.
-pub fn line_for_usage(alloc: Global, k: usize) -> Result<String, AllocError>
+fn line_for_usage(alloc: Global, k: usize) -> Result<String, AllocError>
     ensures { IfOk result (λ line. string_bytes line ≡ usage_line k) }
 {
     format!(in alloc; "usage {k}\n")
@@ -48,77 +46,59 @@ fn line_for_refusal(alloc: Global, refusal: Refusal) -> Result<String, AllocErro
 }
 
 /// The line for a file that can't be read or written.
-pub fn line_for_file(alloc: Global, name: &str) -> Result<String, AllocError>
+fn line_for_file(alloc: Global, name: &str) -> Result<String, AllocError>
     ensures { IfOk result (λ line. string_bytes line ≡ file_line name.now) }
 {
     format!(in alloc; "file {name}\n")
 }
 
-/// Writes the line, and answers the status. Where that fails the status stays, and where it finds no
-/// memory the status is another.
-pub fn say<E: Sink>(err: &mut E, line: &str, status: u8) -> u8
-    ensures { Said (record {
+/// Writes the line, and answers the number. Where that fails the number stays, and where it finds no
+/// memory it is that of want of memory.
+fn say<E: Sink>(err: &mut E, line: &str, number: u8) -> u8
+    ensures { Says (record {
       faults_before = E.faults err.old;
       faults_after = E.faults err.new;
       before = E.written err.old;
       after = E.written err.new;
-    }) line.now status result }
+    }) line.now number result }
 {
     match write_all(err, line.as_bytes()) {
-        PutEnd::Done | PutEnd::Failed => status,
+        PutEnd::Done | PutEnd::Failed => number,
         PutEnd::NoMemory => NO_MEMORY,
     }
 }
 
-/// Says that memory is wanting, which takes none itself, and answers the status for that.
-pub fn say_memory<E: Sink>(err: &mut E) -> u8
-    ensures said { Said (record {
-      faults_before = E.faults err.old;
-      faults_after = E.faults err.new;
-      before = E.written err.old;
-      after = E.written err.new;
-    }) memory_line 10 result }
-    ensures status { result ≡ 10 }
-{
-    say(err, "memory\n", NO_MEMORY)
-}
-
 /// Writes a line that may have found no memory; then `memory` is written in its place.
-pub fn say_line<E: Sink>(err: &mut E, line: Result<String, AllocError>, status: u8) -> u8
-    ensures { (wanted : List ℕ) → IfOk line (λ text. string_bytes text ≡ wanted) → Said (record {
+fn say_line<E: Sink>(err: &mut E, line: Result<String, AllocError>, number: u8) -> u8
+    ensures { (wanted : List ℕ) → IfOk line (λ text. string_bytes text ≡ wanted) → Says (record {
       faults_before = E.faults err.old;
       faults_after = E.faults err.new;
       before = E.written err.old;
       after = E.written err.new;
-    }) wanted status result }
+    }) wanted number result }
 {
     match line {
-        Ok(text) => say(err, text.as_str(), status),
-        Err(_) => say_memory(err),
+        Ok(text) => say(err, text.as_str(), number),
+        Err(_) => say(err, "memory\n", NO_MEMORY),
     }
 }
 
-/// Says why the command ended, and answers its status.
-pub fn report<E: Sink>(alloc: Global, stop: Stop, asked: &ClearWords<'_>, err: &mut E) -> u8
+/// Says how the call ended, and answers the number of that status. Nothing is said where all was done.
+pub fn report<E: Sink>(alloc: Global, status: Status<'_>, err: &mut E) -> u8
     ensures { Said (record {
       faults_before = E.faults err.old;
       faults_after = E.faults err.new;
       before = E.written err.old;
       after = E.written err.new;
-    }) (line_of (clear_of asked.now) stop) (status_of stop) result }
+    }) status.entry result }
 {
-    match stop {
-        Stop::Refused(refusal) => say_line(err, line_for_refusal(alloc, refusal), REFUSED),
-        Stop::Unread(which) => {
-            let name = match which {
-                Which::Source => asked.file,
-                Which::First => asked.first,
-                Which::Second => asked.second,
-            };
-            say_line(err, line_for_file(alloc, name), FILE)
-        }
-        Stop::WrongInput(_) => say(err, "input 1\n", INPUT),
-        Stop::Unwritten => say(err, "output\n", OUTPUT),
-        Stop::NoMemory => say_memory(err),
+    match status {
+        Status::Done => DONE,
+        Status::Refused(refusal) => say_line(err, line_for_refusal(alloc, refusal), REFUSED),
+        Status::NoCommand(k) => say_line(err, line_for_usage(alloc, k), USAGE),
+        Status::File(name) => say_line(err, line_for_file(alloc, name), FILE),
+        Status::Input => say(err, "input 1\n", INPUT),
+        Status::NoMemory => say(err, "memory\n", NO_MEMORY),
+        Status::Output => say(err, "output\n", OUTPUT),
     }
 }

@@ -8,3 +8,5 @@ pub mod Files
 pub mod MemorySink
 pub mod MemoryVault
 pub mod Lines
+pub mod Arguments
+pub mod MemoryArguments
