@@ -1,4 +1,4 @@
-//! What the calls of the lower crates give on worked rows, beside what it should be.
+//! What the calls of the lower crates give on examples, beside what it should be.
 //!
 //! It prints for each subject how many rows came out and how many there are. The wanted values stand beside the rows;
 //! they come from standards, from worked examples and from an independent model.

@@ -36,7 +36,8 @@ pub counting_laws : {W : Type 0} (carried : Bool → W) (told : W → Bool) → 
 counting_laws carried told law = record {
   known_stands = λ s x. refl;
   not_stands = λ s a x h. ap (λ w. carried (not (told w))) h ∙ law (λ u v. not u) x x;
-  xor_stands = λ s a b x y h k. ap (λ w. carried (xor (told w) (told b))) h ∙ ap (λ w. carried (xor (told (carried x)) (told w))) k ∙ law xor x y;
+  xor_stands = λ s a b x y h k.
+      ap (λ w. carried (xor (told w) (told b))) h ∙ ap (λ w. carried (xor (told (carried x)) (told w))) k ∙ law xor x y;
   and_stands = λ s t a b w x y g h k.
       g.0 ∙ ap (λ v. carried (told v && told b)) h ∙ ap (λ v. carried (told (carried x) && told v)) k ∙ law (λ u v. u && v) x y;
   and_keeps = λ s t a b w v x g h. h;
@@ -49,5 +50,10 @@ pub counting_default : {W : Type 0} (carried : Bool → W) (told : W → Bool) {
 counting_default carried told h s w d = h w d
 
 -- an AND adds one to the count, and the room is always most_ands
-pub counting_counts : {W : Type 0} (carried : Bool → W) (told : W → Bool) → Counts (counting_calls carried told) (λ (s : ℕ). s) (λ (s : ℕ). most_ands)
-counting_counts carried told = record { and_made = λ s t a b w g. counted s t g.1; and_room = λ s t a b w g. omega arith; room_serves = λ s a b h. h }
+pub counting_counts : {W : Type 0} (carried : Bool → W) (told : W → Bool)
+    → Counts (counting_calls carried told) (λ (s : ℕ). s) (λ (s : ℕ). most_ands)
+counting_counts carried told = record {
+  and_made = λ s t a b w g. counted s t g.1;
+  and_room = λ s t a b w g. omega arith;
+  room_serves = λ s a b h. h;
+}

@@ -1,4 +1,4 @@
-//! Makes gates: each operation on worked rows, and many gates for the times in docs/PERFORMANCE.md.
+//! Makes gates: each operation on examples, and many gates for the times in docs/PERFORMANCE.md.
 //!
 //! Its words are a backend, `plain` or `blank`, an operation on words of 64 wires with a sign, `multiply` or
 //! `quotient`, and how often the operation is made. It prints how many ANDs were made. Without words it
