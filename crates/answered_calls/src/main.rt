@@ -215,29 +215,34 @@ fn show_dealt(rt: &HostRuntime) -> io::Result<()> {
     tally.show(rt, "dealt files")
 }
 
-/// A `deal` of which a call of the vault fails answers so, and leaves the first file as long as this, and no second one.
+/// A `deal` that finds this answers so, and leaves the first file as long as this, and no second one.
 fn failed_deal_answers(
     alloc: Global,
-    failing: &[u64],
+    found: &Found<'_>,
     err: &[u8],
     first: Option<usize>,
 ) -> Result<bool, NoMemory> {
-    let found = Found {
-        files: &[],
-        failing: [failing, &[], &[]],
-        most: 100,
-    };
     let wanted = Answer {
         has_sizes: true,
         first,
         ..answer(5, b"", err)
     };
-    answers(alloc, &MemoryArguments::new(&DEAL), &found, &wanted)
+    answers(alloc, &MemoryArguments::new(&DEAL), found, &wanted)
 }
 
 fn show_failed_deals(rt: &HostRuntime) -> io::Result<()> {
-    let none = failed_deal_answers(rt.alloc(), &[0], b"file one\n", None);
-    let one = failed_deal_answers(rt.alloc(), &[1], b"file two\n", Some(153));
+    let first_fails = Found {
+        files: &[],
+        failing: [&[0], &[], &[]],
+        most: 100,
+    };
+    let second_fails = Found {
+        files: &[],
+        failing: [&[1], &[], &[]],
+        most: 100,
+    };
+    let none = failed_deal_answers(rt.alloc(), &first_fails, b"file one\n", None);
+    let one = failed_deal_answers(rt.alloc(), &second_fails, b"file two\n", Some(153));
     Tally::NONE
         .count(rt, "failed deals", none)?
         .count(rt, "failed deals", one)?
