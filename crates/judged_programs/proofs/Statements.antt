@@ -107,8 +107,8 @@ module _ (g : Lookup) where
 
   declare_typed : (d : Declared) (s : Scope) (z : TDeclared × Scope) → declare g d s ≡ Ok z → DeclaredTyping g d s z.0 z.1
   declare_typed d s z h =
-      let a = parted (field_type g d.field) (λ ty. next (needs d.field.spot T2 (not (is_taken s.seen s.level d.field.name))) (λ _. bind (initial g ty d.init) (λ v. declaring d s v) (declared d ty s))) z h in
-      let n = parted (needs d.field.spot T2 (not (is_taken s.seen s.level d.field.name))) (λ _. bind (initial g a.0 d.init) (λ v. declaring d s v) (declared d a.0 s)) z a.2 in
+      let a = parted (field_type g d.field) (λ ty. next (needs d.field.spot T2 (not (is_taken s d.field.name))) (λ _. bind (initial g ty d.init) (λ v. declaring d s v) (declared d ty s))) z h in
+      let n = parted (needs d.field.spot T2 (not (is_taken s d.field.name))) (λ _. bind (initial g a.0 d.init) (λ v. declaring d s v) (declared d a.0 s)) z a.2 in
       let i = walk_then (initial g a.0 d.init) (λ v. declaring d s v) (declared d a.0 s) z n.2 in
       let o = initial_typed a.0 d.init (declared d a.0 s) i.0 i.1 in
       let q = pure_back _ i.0.1 z i.2 in
@@ -116,7 +116,7 @@ module _ (g : Lookup) where
 
   declare_is : (d : Declared) (s : Scope) (x : TDeclared) (r : Scope) → DeclaredTyping g d s x r → declare g d s ≡ Ok (x, r)
   declare_is d s x r h =
-      then_ok (λ ty. next (needs d.field.spot T2 (not (is_taken s.seen s.level d.field.name))) (λ _. bind (initial g ty d.init) (λ v. declaring d s v) (declared d ty s))) h.2
+      then_ok (λ ty. next (needs d.field.spot T2 (not (is_taken s d.field.name))) (λ _. bind (initial g ty d.init) (λ v. declaring d s v) (declared d ty s))) h.2
       ∙ then_ok (λ _. bind (initial g h.0 d.init) (λ v. declaring d s v) (declared d h.0 s)) (meets d.field.spot T2 _ (ap not h.3))
       ∙ walk_ok (initial g h.0 d.init) (λ v. declaring d s v) (declared d h.0 s) h.1 (declared d h.0 s) (x, r) (initial_is h.0 d.init (declared d h.0 s) h.1 h.4) (pure_ok _ x _ r h.5 h.6)
 
@@ -218,7 +218,9 @@ module _ (g : Lookup) where
     statement_typed loop p Empty s z h = pure_back (stands p t.Empty) s z h
 
     part_typed : (loop : Bool) (y : Row_of-Stmt 1) (s : Scope) (z : TStmt × Scope) → part g loop y s ≡ Ok z → PartTyping g loop y s z.0 z.1
-    part_typed loop (more_of-Stmt p n rest) s z h = statement_typed loop p n s z h
+    part_typed loop (more_of-Stmt p n rest) s z h =
+        let w = scoped_back (stmt g loop p n) s z h in
+        (w.0.1, subst (λ c. StatementTyping g loop p n (deeper s) c w.0.1) (sym w.2) (statement_typed loop p n (deeper s) w.0 w.1), w.3)
 
     block_typed : {m : _} (loop : Bool) (ss : Row_of-Stmt m) (s : Scope) (z : List TStmt × Scope) → stmts g loop ss s ≡ Ok z → BlockTyping g loop ss s z.0 z.1
     block_typed loop end_of-Stmt s z h = pure_back [] s z h
@@ -279,7 +281,8 @@ module _ (g : Lookup) where
     statement_is loop p Empty s c r h = pure_ok _ c s r h.0 h.1
 
     part_is : (loop : Bool) (y : Row_of-Stmt 1) (s : Scope) (c : TStmt) (r : Scope) → PartTyping g loop y s c r → part g loop y s ≡ Ok (c, r)
-    part_is loop (more_of-Stmt p n rest) s c r h = statement_is loop p n s c r h
+    part_is loop (more_of-Stmt p n rest) s c r h =
+        scoped_is (stmt g loop p n) s c h.0 (statement_is loop p n (deeper s) c h.0 h.1) ∙ ap (λ q. Ok (c, q)) (sym h.2)
 
     block_is : {m : _} (loop : Bool) (ss : Row_of-Stmt m) (s : Scope) (xs : List TStmt) (r : Scope) → BlockTyping g loop ss s xs r → stmts g loop ss s ≡ Ok (xs, r)
     block_is loop end_of-Stmt s xs r h = pure_ok [] xs s r h.0 h.1

@@ -32,9 +32,11 @@ FieldsTyping g earlier at (f ∷ fs) xs =
     (ty : CType) × (ys : List FieldType) × (field_type g f ≡ Ok ty) × (has_name earlier f.name ≡ false)
     × FieldsTyping g (f.name ∷ earlier) (at + cells_of g ty) fs ys × (xs ≡ record { name = f.name; ty = ty; offset = at } ∷ ys)
 
--- whether a struct of these fields is small enough, and not nested too deeply
+-- whether a struct of these fields has a cell, is small enough, and not nested too deeply
 abbrev pub is_small : Lookup → List FieldType → Bool
-is_small g fs = nat_le (field_cells (struct_cells g.structs) fs) 65536 && nat_lt (field_depth (depths_after [] g.structs) fs) 64
+is_small g fs =
+    nat_le 1 (field_cells (struct_cells g.structs) fs) && nat_le (field_cells (struct_cells g.structs) fs) 65536
+    && nat_lt (field_depth (depths_after [] g.structs) fs) 64
 
 -- s is the struct of a definition, where those above it are known
 abbrev pub StructTyping : Lookup → StructDef → StructType → Type 0
@@ -78,7 +80,7 @@ HeadingsTyping g ds earlier (f ∷ fs) hs =
 
 -- the scope of a function's body before its first statement, in which its parameters are
 abbrev pub first_scope : Function → Heading → Scope
-first_scope f h = with_params f.params h.params (record { seen = []; slots = []; level = 0 })
+first_scope f h = with_params f.params h.params (record { seen = []; slots = []; outer = 0 })
 
 -- t is the typed function of this heading and these statements
 abbrev pub FunctionTyping : Lookup → Function → Heading → List Stmt → TypedFunction → Type 0

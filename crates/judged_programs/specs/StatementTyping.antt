@@ -49,7 +49,7 @@ declared d ty s = add d.field.name ty (is_frozen_place d.field.base d.field.star
 -- of a declared variable, whose name isn't taken and is visible in its own initialiser; r is the scope after it
 abbrev pub DeclaredTyping : Lookup → Declared → Scope → TDeclared → Scope → Type 0
 DeclaredTyping g d s x r =
-    (ty : CType) × (o : Option TExpr) × (field_type g d.field ≡ Ok ty) × (is_taken s.seen s.level d.field.name ≡ false)
+    (ty : CType) × (o : Option TExpr) × (field_type g d.field ≡ Ok ty) × (is_taken s d.field.name ≡ false)
     × InitialTyping g (declared d ty s) ty d.init o × (x ≡ record { spot = d.field.spot; slot = length s.slots; init = o })
     × (r ≡ declared d ty s)
 
@@ -94,9 +94,9 @@ abbrev mutual
   StatementTyping g loop p Continue s c r = (loop ≡ true) × (c ≡ stands p t.Continue) × (r ≡ s)
   StatementTyping g loop p Empty s c r = (c ≡ stands p t.Empty) × (r ≡ s)
 
-  -- of a part of a statement
+  -- of a part of a statement, whose names end with it
   pub PartTyping : Lookup → Bool → Row_of-Stmt 1 → Scope → TStmt → Scope → Type 0
-  PartTyping g loop (more_of-Stmt p n rest) s c r = StatementTyping g loop p n s c r
+  PartTyping g loop (more_of-Stmt p n rest) s c r = (q : Scope) × StatementTyping g loop p n (deeper s) c q × (r ≡ back s q)
 
   -- of the statements of a block, in order
   pub BlockTyping : {m : _} → Lookup → Bool → Row_of-Stmt m → Scope → List TStmt → Scope → Type 0

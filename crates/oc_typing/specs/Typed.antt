@@ -188,11 +188,6 @@ abbrev pub back : Context → List ℕ → Option TExpr → Bool
 back g vis None = is_nothing g.result
 back g vis (Some e) = not (is_nothing g.result) && same true e.ty g.result && alone g vis e
 
--- whether a row's only statement is a block
-abbrev pub is_block : Row_of-TStmt 1 → Bool
-is_block (more_of-TStmt q (Block' _ ss) rest) = true
-is_block _ = false
-
 abbrev mutual
   -- a statement, inside of a loop or not
   pub stmt : Context → Bool → List ℕ → TStmtNode → Bool
@@ -201,7 +196,7 @@ abbrev mutual
   stmt g loop vis (Block' _ ss) = rows g loop vis ss
   stmt g loop vis (If' c _ s n) = condition g vis c && part g loop vis s && other g loop vis n
   stmt g loop vis (OblivIf' c _ s n) = same true c.ty (Int KBool true) && alone g vis c && part g loop vis s && other g loop vis n
-  stmt g loop vis (Always' n _ s) = has_type (Int KBool true) (slice_get g.slots n) && is_block s && part g loop (n ∷ vis) s
+  stmt g loop vis (Always' n _ s) = has_type (Int KBool true) (slice_get g.slots n) && part g loop (n ∷ vis) s
   stmt g loop vis (While' c _ s) = condition g vis c && part g true vis s
   stmt g loop vis (For' i c a _ s) =
       header g vis i && maybe (condition g (after_header vis i)) c && maybe (valued g (after_header vis i)) a

@@ -24,7 +24,6 @@ use Rattle.type_rules.specs.Written.{bodies_of, at_function}
 use Rattle.type_rules.specs.StatementRules.{Scope, add, stmt}
 use Rattle.type_rules.specs.ProgramRules.{statements, with_params, body, function, functions_from}
 use Rattle.type_rules.proofs.Laws.{fine_back, parted}
-use Rattle.rules_typed.specs.Grammatical.{is_declaration, GrammaticalStmts, GrammaticalBody, GrammaticalFunctions}
 use Rattle.rules_typed.specs.Agreeing.{Goes, GoodFunction, AgreesApart, SeesAll}
 use Rattle.rules_typed.proofs.Bools.{never, both, first, second, last, none_some, some_is}
 use Rattle.rules_typed.proofs.Types.{itself}
@@ -40,7 +39,7 @@ use Rattle.rules_typed.proofs.Numbers as number
 pub data Built (g : Lookup) (ds : List StructDef) (sizes : List ℕ) (structs : List StructType) : List Heading → List TypedFunction → Type 0 where
   built_none : Built g ds sizes structs [] []
   built_more : {f : Function} {h : Heading} {ss : List Stmt} {t : TypedFunction} {hs : List Heading} {ts : List TypedFunction}
-      → MadeHeading sizes structs f h → GrammaticalStmts ss → MadeFunction (record (at_function g ds f) { result = h.result }) f h ss t → Built g ds sizes structs hs ts → Built g ds sizes structs (h ∷ hs) (t ∷ ts)
+      → MadeHeading sizes structs f h → MadeFunction (record (at_function g ds f) { result = h.result }) f h ss t → Built g ds sizes structs hs ts → Built g ds sizes structs (h ∷ hs) (t ∷ ts)
 
 -- those that are judged after others
 abbrev Building : Lookup → List StructDef → List ℕ → List StructType → List Heading → List TypedFunction → List TypedFunction → Type 0
@@ -48,24 +47,24 @@ Building g ds sizes structs hs done ts = (us : List TypedFunction) × Built g ds
 
 -- what is found for functions
 pub built : (g : Lookup) (ds : List StructDef) (sizes : List ℕ) (structs : List StructType) (earlier : List Heading) (fs : List Function) (hs : List Heading) (done ts : List TypedFunction)
-    → MadeHeadings sizes structs earlier fs hs → GrammaticalFunctions fs → functions_from g ds done fs hs ≡ Ok ts → Building g ds sizes structs (bodies_of hs) done ts
+    → MadeHeadings sizes structs earlier fs hs → functions_from g ds done fs hs ≡ Ok ts → Building g ds sizes structs (bodies_of hs) done ts
 unfolding next
-built g ds sizes structs earlier [] [] done ts m b q = ([], built_none, sym (fine_back done ts q) ∙ sym (append-nil done))
-built g ds sizes structs earlier [] (h ∷ hs) done ts m b q = absurd m
-built g ds sizes structs earlier (f ∷ fs) [] done ts m b q = absurd m
-built g ds sizes structs earlier (f ∷ fs) (h ∷ hs) done ts m b q = on f.body refl b.0 q (λ d p. built g ds sizes structs (earlier ++ h ∷ []) fs hs d ts m.2 b.1 p)
+built g ds sizes structs earlier [] [] done ts m q = ([], built_none, sym (fine_back done ts q) ∙ sym (append-nil done))
+built g ds sizes structs earlier [] (h ∷ hs) done ts m q = absurd m
+built g ds sizes structs earlier (f ∷ fs) [] done ts m q = absurd m
+built g ds sizes structs earlier (f ∷ fs) (h ∷ hs) done ts m q = on f.body refl q (λ d p. built g ds sizes structs (earlier ++ h ∷ []) fs hs d ts m.2 p)
   where
-    on : (o : Option (List Stmt)) → f.body ≡ o → GrammaticalBody o → next (function (at_function g ds f) f h o done) (λ ts. functions_from g ds ts fs hs) ≡ Ok ts
+    on : (o : Option (List Stmt)) → f.body ≡ o → next (function (at_function g ds f) f h o done) (λ ts. functions_from g ds ts fs hs) ≡ Ok ts
         → ((d : List TypedFunction) → functions_from g ds d fs hs ≡ Ok ts → Building g ds sizes structs (bodies_of hs) d ts) → Building g ds sizes structs (bodies_of (h ∷ hs)) done ts
-    on None e b q r =
+    on None e q r =
         subst (λ l. Building g ds sizes structs l done ts) (sym (ap (λ c. if c then h ∷ bodies_of hs else bodies_of hs) (m.0.body ∙ ap (λ o. is_some o) e))) (r done q)
-    on (Some ss) e b q r =
+    on (Some ss) e q r =
         let z = parted (function (at_function g ds f) f h (Some ss) done) _ ts q in
         let y = parted (body (record (at_function g ds f) { result = h.result }) f h ss) _ z.0 z.1 in
         let u = r z.0 z.2 in
         let made = made_function (record (at_function g ds f) { result = h.result }) f h ss y.0 m.0.params.count y.1 in
         subst (λ l. Building g ds sizes structs l done ts) (sym (ap (λ c. if c then h ∷ bodies_of hs else bodies_of hs) (m.0.body ∙ ap (λ o. is_some o) e)))
-        (y.0 ∷ u.0, built_more m.0 b made u.1, u.2 ∙ sym (ap (λ l. l ++ u.0) (fine_back (done ++ y.0 ∷ []) z.0 y.2)) ∙ one_on done u.0 y.0)
+        (y.0 ∷ u.0, built_more m.0 made u.1, u.2 ∙ sym (ap (λ l. l ++ u.0) (fine_back (done ++ y.0 ∷ []) z.0 y.2)) ∙ one_on done u.0 y.0)
 
 -- Calls.
 
@@ -115,9 +114,9 @@ has_heading sizes structs r f h ss t m n = record {
 pub has_function : (g : Lookup) (ds : List StructDef) (sizes : List ℕ) (structs : List StructType) (hs : List Heading) (ts : List TypedFunction) (n : ℕ) (h : Heading) → Built g ds sizes structs hs ts → slice_get hs n ≡ Some h
     → (t : TypedFunction) × (slice_get ts n ≡ Some t) × HasHeading sizes (public_structs structs) h t
 has_function g ds sizes structs _ _ n h built_none q = absurd (none_some q)
-has_function g ds sizes structs _ _ zero h (built_more {f} {h = k} {ss} {t} m b n rest) q =
+has_function g ds sizes structs _ _ zero h (built_more {f} {h = k} {ss} {t} m n rest) q =
     (t, refl, subst (λ h. HasHeading sizes (public_structs structs) h t) (some_is q) (has_heading sizes structs (record (at_function g ds f) { result = k.result }) f k ss t m n))
-has_function g ds sizes structs _ _ (suc n) h (built_more {hs} {ts} m b k rest) q = has_function g ds sizes structs hs ts n h rest q
+has_function g ds sizes structs _ _ (suc n) h (built_more {hs} {ts} m k rest) q = has_function g ds sizes structs hs ts n h rest q
 
 -- a result may be the type of a node
 result_of_node : (g : Context) (u : CType) → is_result g.sizes g.public u ≡ true → is_of_node g u ≡ true
@@ -160,9 +159,9 @@ module _ (r : Lookup) (g : Context) (around : AgreesApart r g) where
       (params_seen ps ss (add p.name s.ty s.frozen z) f (length z.slots ∷ vis) (suc_is (length ss) (length ps) q) (second (is_slot g.sizes g.public s) (all (is_slot g.sizes g.public) ss) k) on more)
 
   -- the statements of a body
-  statements_done : (ss : List Stmt) (z : Scope) → GrammaticalStmts ss → IfOk (statements r ss z) (λ q. DoneRows r g around false z q.0 q.1)
-  statements_done [] z h = rows_none r g around false z
-  statements_done (x ∷ xs) z h = rows_more r g around (is_declaration x.node) false z (stmt r false x.spot x.node) (statements r xs) (stmt_done r g around x.node false x.spot z h.0) (λ t. statements_done xs t h.1)
+  statements_done : (ss : List Stmt) (z : Scope) → IfOk (statements r ss z) (λ q. DoneRows r g around false z q.0 q.1)
+  statements_done [] z = rows_none r g around false z
+  statements_done (x ∷ xs) z = rows_more r g around false z (stmt r false x.spot x.node) (statements r xs) (stmt_done r g around x.node false x.spot z) (λ t. statements_done xs t)
 
   rows_stmts : (f : List SlotType) (vis : List ℕ) (xs : List TStmt) → rows_test r g around f false vis xs ≡ true → typed.stmts (record g { slots = f }) vis xs ≡ true
   rows_stmts f vis [] h = refl
@@ -186,11 +185,11 @@ longer a f g = subst (λ l. nat_le (length a) (length l) ≡ true) (sym g.1) (on
 
 -- a body that was walked from its parameters on
 pub function_typed : (r : Lookup) (structs : List StructType) (fs : List TypedFunction) (f : Function) (h : Heading) (ss : List Stmt) (t : TypedFunction) → AgreesApart r (context structs fs t)
-    → MadeHeading (struct_cells structs) structs f h → GrammaticalStmts ss → MadeFunction r f h ss t → typed.function structs fs t ≡ true
-function_typed r structs fs f h ss t around m b n = subst (λ t. AgreesApart r (context structs fs t) → typed.function structs fs t ≡ true) (sym n.is) body_typed around
+    → MadeHeading (struct_cells structs) structs f h → MadeFunction r f h ss t → typed.function structs fs t ≡ true
+function_typed r structs fs f h ss t around m n = subst (λ t. AgreesApart r (context structs fs t) → typed.function structs fs t ≡ true) (sym n.is) body_typed around
   where
     start : Scope
-    start = record { seen = []; slots = []; level = 0 }
+    start = record { seen = []; slots = []; outer = 0 }
 
     slots : List SlotType
     slots = n.rest.1.slots
@@ -201,7 +200,7 @@ function_typed r structs fs f h ss t around m b n = subst (λ t. AgreesApart r (
     body_typed : AgreesApart r (context structs fs made) → typed.function structs fs made ≡ true
     body_typed around =
         let g = context structs fs made in
-        let done = subst (λ m. IfOk m (λ q. DoneRows r g around false (started f h) q.0 q.1)) n.walked (statements_done r g around ss (started f h) b) in
+        let done = subst (λ m. IfOk m (λ q. DoneRows r g around false (started f h) q.0 q.1)) n.walked (statements_done r g around ss (started f h)) in
         let from = params_slots f.params h.params start m.params.count in
         let grows = subst (λ t. Goes h.params t.slots) n.is n.grows in
         let types = params_first h.params slots (length h.params) refl grows in

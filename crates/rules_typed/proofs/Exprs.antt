@@ -1,5 +1,5 @@
 -- What the rules give for an expression passes the test.
-use Rattle.std.proofs.Common.{ℕ, ◌≡◌, List, Option, Some, None, Ok, refl, sym, ap, ◌∙◌, subst, Bool, true, false, nat_eq, arith, suc, [], ◌∷◌, length, Err}
+use Rattle.std.proofs.Common.{ℕ, ◌≡◌, List, Option, Some, None, Ok, refl, sym, ◌∙◌, subst, Bool, true, false, nat_eq, arith, suc, [], ◌∷◌, length, Err}
 use Rattle.std.specs.Prelude.{◌||◌, not, if◌then◌else◌, slice_get, IfOk}
 use Rattle.oc_values.specs.declared.integers.IntKind.{IntKind}
 use Rattle.oc_values.specs.declared.integers.BinaryOp.{BinaryOp}
@@ -33,7 +33,6 @@ use Rattle.type_rules.specs.declared.judging.Want.{Want}
 use Rattle.type_rules.specs.Calls.{called, Called, Variable, Unknown, Print, Own, Known, types_of, Given, function_called}
 use Rattle.type_rules.specs.Written.{type_name}
 use Rattle.type_rules.specs.Rules.{expr, one, value, passed, given, printing, printed, headed, text_of, sized, params_of, wants_of, invoked}
-use Rattle.rules_typed.specs.Grammatical.{Computes, Grammatical, GrammaticalAll}
 use Rattle.rules_typed.specs.Laws.{ExpressionsPass}
 use Rattle.oc_typed.specs.declared.typed.TExprNode as t
 use Rattle.oc_typed.specs.declared.typed.TPlaceNode as place
@@ -96,9 +95,9 @@ module _ (r : Lookup) (g : Context) (vis : List ℕ) (fits : Agrees r g vis) whe
   unary_good p Address f h = refer_good g vis p f h
 
   -- an assignment
-  pub assign_good : (p : Spot) (o : Option BinaryOp) (f : Found) (v : TExpr) → Computes o → Good g vis f → alone g vis v ≡ true → Passes g vis (assign p o f v)
-  assign_good p None f v u h i = assigned_good g vis p f v h i
-  assign_good p (Some o) f v u h i = updated_good g vis p o f v (ap (λ b. not b) u) h i
+  pub assign_good : (p : Spot) (o : Option BinaryOp) (f : Found) (v : TExpr) → Good g vis f → alone g vis v ≡ true → Passes g vis (assign p o f v)
+  assign_good p None f v h i = assigned_good g vis p f v h i
+  assign_good p (Some o) f v h i = updated_good g vis p o f v h i
 
   -- a field of a place
   pub member_good : (p : Spot) (x : List ℕ) (f : Found) → Good g vis f → Passes g vis (field r p x f)
@@ -284,68 +283,68 @@ module _ (r : Lookup) (g : Context) (vis : List ℕ) (fits : Agrees r g vis) whe
 
   mutual
     -- each form of an expression
-    pub expr_good : (n : ExprNode) (alone_here : Bool) (p : Spot) → Grammatical n → Passes g vis (expr r alone_here p n)
-    expr_good (Number l) a p h = number_good g vis p l
-    expr_good NullPointer a p h = null_node r g vis fits p
-    expr_good (Text x) a p h = tt
-    expr_good (Named x) a p h = variable_good g vis p (find r.seen x) (fits.seen x)
-    expr_good (Unary' op _ e) a p h = if_next r g vis fits (one r e) _ (one_good e h) (λ f i. unary_good r g vis fits p op f i)
-    expr_good (Bump' up before _ e) a p h = if_next r g vis fits (one r e) _ (one_good e h) (λ f i. bump_good g vis p up before f i)
-    expr_good (Binary' op _ l _ k) a p h = if_value r g vis fits (value r l) _ (values_good l h.0) (λ x i. if_value r g vis fits (value r k) _ (values_good k h.1) (λ y j. operate_good g vis p op x y i j))
-    expr_good (Logic' every _ l _ k) a p h = if_value r g vis fits (value r l) _ (values_good l h.0) (λ x i. if_value r g vis fits (value r k) _ (values_good k h.1) (λ y j. logic_good g vis p every x y i j))
-    expr_good (Choose' _ c _ y _ n) a p h =
-        if_value r g vis fits (value r c) _ (values_good c h.0) (λ b i. if_value r g vis fits (value r y) _ (values_good y h.1) (λ d j. if_value r g vis fits (value r n) _ (values_good n h.2) (λ e k. choice_good g vis p b d e i j k)))
-    expr_good (Assign' op _ l _ k) a p h = if_next r g vis fits (one r l) _ (one_good l h.1) (λ f i. if_value r g vis fits (value r k) _ (values_good k h.2) (λ v j. assign_good r g vis fits p op f v h.0 i j))
-    expr_good (Index' _ e _ b) a p h = if_value r g vis fits (value r e) _ (values_good e h.0) (λ x i. if_value r g vis fits (value r b) _ (values_good b h.1) (λ y j. index_good g vis p x y i j))
-    expr_good (Field' _ e x) a p h = if_next r g vis fits (one r e) _ (one_good e h) (λ f i. member_good r g vis fits p x f i)
-    expr_good (Arrow' _ e x) a p h = if_value r g vis fits (value r e) _ (values_good e h) (λ v i. arrow_at r g vis fits p x v (field_in r (target v.ty) x) refl i)
-    expr_good (Cast' w _ e) a p h = if_type r g vis fits w _ (λ u k. if_value r g vis fits (value r e) _ (values_good e h) (λ v i. cast_good g vis p u v k i))
-    expr_good (SizeOf w) a p h = broken_after r g vis fits _ p T9
-    expr_good (Call' x _ es) a p h =
-        invoked_good a p x (called r x) (passed r (params_of (called r x)) es) (given r (wants_of (called r x)) es) (printing r a p es) refl (passed_good es (params_of (called r x)) (params_whole x (called r x) refl) h)
-        (λ k q. subst (λ c. Passes g vis (next (given r (wants_of c) es) (λ b. calls.own_called a p k b))) (sym q) (own_passes a p k (given r (calls.wants k) es) (given_good es (calls.wants k) h) (called_shown g vis r x (find r.seen x) k q))) (printing_good es a p h)
+    pub expr_good : (n : ExprNode) (alone_here : Bool) (p : Spot) → Passes g vis (expr r alone_here p n)
+    expr_good (Number l) a p = number_good g vis p l
+    expr_good NullPointer a p = null_node r g vis fits p
+    expr_good (Text x) a p = tt
+    expr_good (Named x) a p = variable_good g vis p (find r.seen x) (fits.seen x)
+    expr_good (Unary' op _ e) a p = if_next r g vis fits (one r e) _ (one_good e) (λ f i. unary_good r g vis fits p op f i)
+    expr_good (Bump' up before _ e) a p = if_next r g vis fits (one r e) _ (one_good e) (λ f i. bump_good g vis p up before f i)
+    expr_good (Binary' op _ l _ k) a p = if_value r g vis fits (value r l) _ (values_good l) (λ x i. if_value r g vis fits (value r k) _ (values_good k) (λ y j. operate_good g vis p op x y i j))
+    expr_good (Logic' every _ l _ k) a p = if_value r g vis fits (value r l) _ (values_good l) (λ x i. if_value r g vis fits (value r k) _ (values_good k) (λ y j. logic_good g vis p every x y i j))
+    expr_good (Choose' _ c _ y _ n) a p =
+        if_value r g vis fits (value r c) _ (values_good c) (λ b i. if_value r g vis fits (value r y) _ (values_good y) (λ d j. if_value r g vis fits (value r n) _ (values_good n) (λ e k. choice_good g vis p b d e i j k)))
+    expr_good (Assign' op _ l _ k) a p = if_next r g vis fits (one r l) _ (one_good l) (λ f i. if_value r g vis fits (value r k) _ (values_good k) (λ v j. assign_good r g vis fits p op f v i j))
+    expr_good (Index' _ e _ b) a p = if_value r g vis fits (value r e) _ (values_good e) (λ x i. if_value r g vis fits (value r b) _ (values_good b) (λ y j. index_good g vis p x y i j))
+    expr_good (Field' _ e x) a p = if_next r g vis fits (one r e) _ (one_good e) (λ f i. member_good r g vis fits p x f i)
+    expr_good (Arrow' _ e x) a p = if_value r g vis fits (value r e) _ (values_good e) (λ v i. arrow_at r g vis fits p x v (field_in r (target v.ty) x) refl i)
+    expr_good (Cast' w _ e) a p = if_type r g vis fits w _ (λ u k. if_value r g vis fits (value r e) _ (values_good e) (λ v i. cast_good g vis p u v k i))
+    expr_good (SizeOf w) a p = broken_after r g vis fits _ p T9
+    expr_good (Call' x _ es) a p =
+        invoked_good a p x (called r x) (passed r (params_of (called r x)) es) (given r (wants_of (called r x)) es) (printing r a p es) refl (passed_good es (params_of (called r x)) (params_whole x (called r x) refl))
+        (λ k q. subst (λ c. Passes g vis (next (given r (wants_of c) es) (λ b. calls.own_called a p k b))) (sym q) (own_passes a p k (given r (calls.wants k) es) (given_good es (calls.wants k)) (called_shown g vis r x (find r.seen x) k q))) (printing_good es a p)
 
-    one_good : (c : Row_of-Expr 1) → GrammaticalAll c → Passes g vis (one r c)
-    one_good (more_of-Expr p n rest) h = expr_good n false p h.0
+    one_good : (c : Row_of-Expr 1) → Passes g vis (one r c)
+    one_good (more_of-Expr p n rest) = expr_good n false p
 
-    values_good : (c : Row_of-Expr 1) → GrammaticalAll c → IfOk (value r c) (λ e. alone g vis e ≡ true)
-    values_good (more_of-Expr p n rest) h = valued_good r g vis fits (expr r false p n) (expr_good n false p h.0)
+    values_good : (c : Row_of-Expr 1) → IfOk (value r c) (λ e. alone g vis e ≡ true)
+    values_good (more_of-Expr p n rest) = valued_good r g vis fits (expr r false p n) (expr_good n false p)
 
-    passed_good : {m : _} (c : Row_of-Expr m) (ts : List CType) → test.all (of_type g vis) ts ≡ true → GrammaticalAll c → GivesAll ts (passed r ts c)
-    passed_good end_of-Expr ts k h = tt
-    passed_good (more_of-Expr p n rest) [] k h = then_all [] [] (valued (expr r false p n)) (passed r [] rest) (λ e. alone g vis e ≡ true) (valued_good r g vis fits (expr r false p n) (expr_good n false p h.0)) (passed_good rest [] k h.1) (λ e es i j. (i, j))
-    passed_good (more_of-Expr p n rest) (u ∷ ts) k h = converted_all u ts (valued (expr r false p n)) (passed r ts rest) (first (of_type g vis u) (test.all (of_type g vis) ts) k) (valued_good r g vis fits (expr r false p n) (expr_good n false p h.0)) (passed_good rest ts (second (of_type g vis u) (test.all (of_type g vis) ts) k) h.1)
+    passed_good : {m : _} (c : Row_of-Expr m) (ts : List CType) → test.all (of_type g vis) ts ≡ true → GivesAll ts (passed r ts c)
+    passed_good end_of-Expr ts k = tt
+    passed_good (more_of-Expr p n rest) [] k = then_all [] [] (valued (expr r false p n)) (passed r [] rest) (λ e. alone g vis e ≡ true) (valued_good r g vis fits (expr r false p n) (expr_good n false p)) (passed_good rest [] k) (λ e es i j. (i, j))
+    passed_good (more_of-Expr p n rest) (u ∷ ts) k = converted_all u ts (valued (expr r false p n)) (passed r ts rest) (first (of_type g vis u) (test.all (of_type g vis) ts) k) (valued_good r g vis fits (expr r false p n) (expr_good n false p)) (passed_good rest ts (second (of_type g vis u) (test.all (of_type g vis) ts) k))
 
-    printing_good : {m : _} (c : Row_of-Expr m) (alone_here : Bool) (p : Spot) → GrammaticalAll c → Passes g vis (printing r alone_here p c)
-    printing_good end_of-Expr a p h = print_good g vis a p false None (record { args = []; fit = true }) tt
-    printing_good (more_of-Expr q n rest) a p h =
+    printing_good : {m : _} (c : Row_of-Expr m) (alone_here : Bool) (p : Spot) → Passes g vis (printing r alone_here p c)
+    printing_good end_of-Expr a p = print_good g vis a p false None (record { args = []; fit = true }) tt
+    printing_good (more_of-Expr q n rest) a p =
         after_any g vis (headed (text_of n) (expr r false q n)) _
-        (if_printed g vis (prints.asked (prints.format_of (text_of n)).pieces) (printed r (prints.asked (prints.format_of (text_of n)).pieces) rest) _ (printed_good rest (prints.asked (prints.format_of (text_of n)).pieces) h.1) (λ x i. print_good g vis a p true (text_of n) x i))
+        (if_printed g vis (prints.asked (prints.format_of (text_of n)).pieces) (printed r (prints.asked (prints.format_of (text_of n)).pieces) rest) _ (printed_good rest (prints.asked (prints.format_of (text_of n)).pieces)) (λ x i. print_good g vis a p true (text_of n) x i))
 
-    printed_good : {m : _} (c : Row_of-Expr m) (ks : List IntKind) → GrammaticalAll c → GivesPrinted g vis ks (printed r ks c)
-    printed_good end_of-Expr ks h = tt
-    printed_good (more_of-Expr p n rest) [] h = printed_more g vis (valued (expr r false p n)) (printed r [] rest) (valued_good r g vis fits (expr r false p n) (expr_good n false p h.0)) (printed_good rest [] h.1)
-    printed_good (more_of-Expr p n rest) (k ∷ ks) h = printed_as g vis k ks (valued (expr r false p n)) (printed r ks rest) (valued_good r g vis fits (expr r false p n) (expr_good n false p h.0)) (printed_good rest ks h.1)
+    printed_good : {m : _} (c : Row_of-Expr m) (ks : List IntKind) → GivesPrinted g vis ks (printed r ks c)
+    printed_good end_of-Expr ks = tt
+    printed_good (more_of-Expr p n rest) [] = printed_more g vis (valued (expr r false p n)) (printed r [] rest) (valued_good r g vis fits (expr r false p n) (expr_good n false p)) (printed_good rest [])
+    printed_good (more_of-Expr p n rest) (k ∷ ks) = printed_as g vis k ks (valued (expr r false p n)) (printed r ks rest) (valued_good r g vis fits (expr r false p n) (expr_good n false p)) (printed_good rest ks)
 
-    given_good : {m : _} (c : Row_of-Expr m) (ws : List Want) → GrammaticalAll c → IfOk (given r ws c) (Told g vis ws)
-    given_good end_of-Expr [] h = λ q n. exact_none
-    given_good end_of-Expr (w ∷ ws) h = λ q n. absurd (no_length (length ws) q)
-    given_good (more_of-Expr p n rest) [] h = extra_good g vis (valued (expr r false p n)) (given r [] rest)
-    given_good (more_of-Expr p n rest) (w ∷ ws) h = more_good g vis w ws (calls.given_by (rules.way r w n) w (expr r false p n) (rules.private r p n) (rules.size r n)) (given r ws rest) (argument_good n p w (expr_good n false p h.0) (private_good n p h.0) (size_good n h.0)) (given_good rest ws h.1)
+    given_good : {m : _} (c : Row_of-Expr m) (ws : List Want) → IfOk (given r ws c) (Told g vis ws)
+    given_good end_of-Expr [] = λ q n. exact_none
+    given_good end_of-Expr (w ∷ ws) = λ q n. absurd (no_length (length ws) q)
+    given_good (more_of-Expr p n rest) [] = extra_good g vis (valued (expr r false p n)) (given r [] rest)
+    given_good (more_of-Expr p n rest) (w ∷ ws) = more_good g vis w ws (calls.given_by (rules.way r w n) w (expr r false p n) (rules.private r p n) (rules.size r n)) (given r ws rest) (argument_good n p w (expr_good n false p) (private_good n p) (size_good n)) (given_good rest ws)
 
-    private_good : (n : ExprNode) (p : Spot) → Grammatical n → IsFed g vis (rules.private r p n)
-    private_good (Call' x _ es) p h = private_row es p h
-    private_good _ p h = tt
+    private_good : (n : ExprNode) (p : Spot) → IsFed g vis (rules.private r p n)
+    private_good (Call' x _ es) p = private_row es p
+    private_good _ p = tt
 
-    private_row : {m : _} (c : Row_of-Expr m) (p : Spot) → GrammaticalAll c → IsFed g vis (next (given r (want.Index ∷ []) c) (λ a. calls.private_word p a))
-    private_row end_of-Expr p h = none_given g vis p
-    private_row (more_of-Expr q n end_of-Expr) p h = private_of g vis p (valued (expr r false q n)) (valued_good r g vis fits (expr r false q n) (expr_good n false q h.0))
-    private_row (more_of-Expr q n (more_of-Expr s k rest)) p h = private_many g vis p (calls.given_by (rules.way r want.Index n) want.Index (expr r false q n) (rules.private r q n) (rules.size r n)) (valued (expr r false s k)) (given r [] rest) (only_count g vis want.Index (calls.given_by (rules.way r want.Index n) want.Index (expr r false q n) (rules.private r q n) (rules.size r n)) (value_given g vis want.Index (expr r false q n) (expr_good n false q h.0)))
+    private_row : {m : _} (c : Row_of-Expr m) (p : Spot) → IsFed g vis (next (given r (want.Index ∷ []) c) (λ a. calls.private_word p a))
+    private_row end_of-Expr p = none_given g vis p
+    private_row (more_of-Expr q n end_of-Expr) p = private_of g vis p (valued (expr r false q n)) (valued_good r g vis fits (expr r false q n) (expr_good n false q))
+    private_row (more_of-Expr q n (more_of-Expr s k rest)) p = private_many g vis p (calls.given_by (rules.way r want.Index n) want.Index (expr r false q n) (rules.private r q n) (rules.size r n)) (valued (expr r false s k)) (given r [] rest) (only_count g vis want.Index (calls.given_by (rules.way r want.Index n) want.Index (expr r false q n) (rules.private r q n) (rules.size r n)) (value_given g vis want.Index (expr r false q n) (expr_good n false q)))
 
-    size_good : (n : ExprNode) → Grammatical n → IfOk (rules.size r n) (Told1 g vis want.Bytes)
-    size_good (SizeOf w) h = sized_good w want.Bytes (λ u i. bytes_of i)
-    size_good (Binary' op _ l _ k) h = product_good (rules.sizeof_row l) (rules.sizeof_row k) (one r l) (one r k) (one_good l h.0) (one_good k h.1)
-    size_good _ h = wrong_good want.Bytes
+    size_good : (n : ExprNode) → IfOk (rules.size r n) (Told1 g vis want.Bytes)
+    size_good (SizeOf w) = sized_good w want.Bytes (λ u i. bytes_of i)
+    size_good (Binary' op _ l _ k) = product_good (rules.sizeof_row l) (rules.sizeof_row k) (one r l) (one r k) (one_good l) (one_good k)
+    size_good _ = wrong_good want.Bytes
 
 pub expressions_typed : ExpressionsPass
-expressions_typed r g vis n a p fits h = expr_good r g vis fits n a p h
+expressions_typed r g vis n a p fits = expr_good r g vis fits n a p

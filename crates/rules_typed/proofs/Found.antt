@@ -146,7 +146,7 @@ params_slots (p ∷ ps) (s ∷ ss) z q = params_slots ps ss (add p.name s.ty s.f
 
 -- what a function's body starts with
 abbrev pub started : Function → Heading → Scope
-started f h = with_params f.params h.params (record { seen = []; slots = []; level = 0 })
+started f h = with_params f.params h.params (record { seen = []; slots = []; outer = 0 })
 
 -- the function of a heading and a body
 pub record MadeFunction (r : Lookup) (f : Function) (h : Heading) (ss : List Stmt) (t : TypedFunction) : Type 0 where
@@ -165,5 +165,5 @@ made_function r f h ss t c q =
       rest = z.0;
       walked = z.1;
       is = sym e;
-      grows = subst (λ t. Goes h.params t.slots) e (subst (λ l. Goes l z.0.1.slots) (params_slots f.params h.params (record { seen = []; slots = []; level = 0 }) c) g);
+      grows = subst (λ t. Goes h.params t.slots) e (subst (λ l. Goes l z.0.1.slots) (params_slots f.params h.params (record { seen = []; slots = []; outer = 0 }) c) g);
     }

@@ -1,5 +1,5 @@
 -- The slots of a walk go on from those before it, whatever is judged.
-use Rattle.std.proofs.Common.{ℕ, ◌+◌, List, [], ◌∷◌, ◌++◌, length, Option, Some, None, Ok, Err, refl, sym, ap, ◌∙◌, Bool, true, false, append_assoc, append-nil}
+use Rattle.std.proofs.Common.{ℕ, List, [], ◌∷◌, ◌++◌, length, Option, Some, None, Ok, Err, refl, sym, ap, ◌∙◌, Bool, true, false, append_assoc, append-nil}
 use Rattle.std.specs.Prelude.{not, IfOk}
 use Rattle.oc_values.specs.declared.integers.IntKind.TheVariants.{Bool as KBool}
 use Rattle.oc_cells.specs.declared.types.CType.{CType, Int}
@@ -61,9 +61,9 @@ grows_ask m z = grows_judged m z
 
 grows_scoped : {A : Type 0} (m : Walk A) → Grows m → Grows (scoped m)
 unfolding next
-grows_scoped {A} m f z = on (m (record z { level = z.level + 1 })) (f (record z { level = z.level + 1 }))
+grows_scoped {A} m f z = on (m (record z { outer = length z.seen })) (f (record z { outer = length z.seen }))
   where
-    on : (n : Judged (A × Scope)) → IfOk n (λ q. Goes z.slots q.1.slots) → IfOk (next {B = A × Scope} n (λ q. Ok (q.0, record { seen = z.seen; slots = q.1.slots; level = z.level }))) (λ q. Goes z.slots q.1.slots)
+    on : (n : Judged (A × Scope)) → IfOk n (λ q. Goes z.slots q.1.slots) → IfOk (next {B = A × Scope} n (λ q. Ok (q.0, record { seen = z.seen; slots = q.1.slots; outer = z.outer }))) (λ q. Goes z.slots q.1.slots)
     on (Ok x) h = h
     on (Err b) h = tt
 
@@ -90,7 +90,7 @@ added x u frozen z = (record { ty = u; frozen = frozen } ∷ [], refl)
 -- a declaration
 grows_declare : (g : Lookup) (d : Declared) → Grows (declare g d)
 unfolding next
-grows_declare g d z = on (field_type g d.field) (not (is_taken z.seen z.level d.field.name))
+grows_declare g d z = on (field_type g d.field) (not (is_taken z d.field.name))
   where
     then : {A : Type 0} (w : Scope) (n : Judged (A × Scope)) → Goes z.slots w.slots → IfOk n (λ q. Goes w.slots q.1.slots) → IfOk n (λ q. Goes z.slots q.1.slots)
     then w (Ok y) h i = goes_further z.slots w.slots y.1.slots h i
@@ -136,7 +136,7 @@ mutual
   grows_stmt g loop p Empty = still
 
   grows_part : (g : Lookup) (loop : Bool) (c : Row_of-Stmt 1) → Grows (part g loop c)
-  grows_part g loop (more_of-Stmt p n rest) = grows_stmt g loop p n
+  grows_part g loop (more_of-Stmt p n rest) = grows_scoped (stmt g loop p n) (grows_stmt g loop p n)
 
   grows_stmts : {m : _} (g : Lookup) (loop : Bool) (c : Row_of-Stmt m) → Grows (stmts g loop c)
   grows_stmts g loop end_of-Stmt = still

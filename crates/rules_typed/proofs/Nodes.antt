@@ -42,7 +42,7 @@ use Rattle.oc_typing.specs.Rules as test
 use Rattle.oc_typing.specs.Typed as typed
 use Rattle.oc_values.specs.Kinds as kinds
 use Rattle.rules_typed.proofs.Bools.{both, either, first, last, leads, left_marked, marked, never, not_back, one_of, others, right_marked, second, three, turned}
-use Rattle.rules_typed.proofs.Types.{alike_itself, changes, common_over, compared_kind, held_of, itself, no_add, no_address, no_sum, null_same, only_steps, plain_kind, promoted_is, public_test, step_test, sum_same, value_integer, value_marked}
+use Rattle.rules_typed.proofs.Types.{computes, alike_itself, changes, common_over, compared_kind, held_of, itself, no_add, no_address, no_sum, null_same, only_steps, plain_kind, promoted_is, public_test, step_test, sum_same, value_integer, value_marked}
 use Rattle.rules_typed.proofs.Numbers.{number_itself}
 
 -- a rule that is kept, and what follows
@@ -462,31 +462,27 @@ module _ (g : Context) (vis : List ℕ) where
     fits : test.update op u x.ty ≡ true
 
   -- it is converted as its operator takes it
-  pub works_at : (b c : Bool) (op : BinaryOp) (u : CType) (v : TExpr) → is_integer u ≡ b → is_shift op ≡ c → not (judging.is_comparison op) ≡ true → alone g vis v ≡ true → judging.takes_update op u v.ty ≡ true
+  pub works_at : (b c : Bool) (op : BinaryOp) (u : CType) (v : TExpr) → is_integer u ≡ b → is_shift op ≡ c → alone g vis v ≡ true → judging.takes_update op u v.ty ≡ true
       → Works op u (if not b then v else if c then converted (Int (promoted (kind_of v.ty)) (is_hidden v.ty)) v else converted (Int (judging.common (kind_of u) (kind_of v.ty)) (is_hidden u)) v)
-  works_at true true op u v p s n h k =
+  works_at true true op u v p s h k =
       let w = int_good (promoted (kind_of v.ty)) (is_hidden v.ty) v h (value_integer op u v.ty p k) (marked (is_hidden v.ty)) in
-      record { good = w.good; fits = subst (λ z. test.update op u z ≡ true) (sym w.ty) (shift_update op u (kind_of v.ty) (is_hidden v.ty) n p s (value_marked op u v.ty p k)) }
-  works_at true false op u v p s n h k =
+      record { good = w.good; fits = subst (λ z. test.update op u z ≡ true) (sym w.ty) (shift_update op u (kind_of v.ty) (is_hidden v.ty) (computes op u v.ty p k) p s (value_marked op u v.ty p k)) }
+  works_at true false op u v p s h k =
       let w = int_good (judging.common (kind_of u) (kind_of v.ty)) (is_hidden u) v h (value_integer op u v.ty p k) (value_marked op u v.ty p k) in
-      record { good = w.good; fits = subst (λ z. test.update op u z ≡ true) (sym w.ty) (plain_update op u (kind_of v.ty) n p) }
-  works_at false c op u v p s n h k =
+      record { good = w.good; fits = subst (λ z. test.update op u z ≡ true) (sym w.ty) (plain_update op u (kind_of v.ty) (computes op u v.ty p k) p) }
+  works_at false c op u v p s h k =
       let z = only_steps op u v.ty p k in
       record { good = h; fits = step_update op u v.ty (first (judging.leads u) (judging.is_public v.ty) (second (judging.is_add op || judging.is_minus op) (judging.steps u v.ty) z)) (second (judging.leads u) (judging.is_public v.ty) (second (judging.is_add op || judging.is_minus op) (judging.steps u v.ty) z)) (first (judging.is_add op || judging.is_minus op) (judging.steps u v.ty) z) }
 
   -- a compound assignment
-  pub updated_good : (p : Spot) (op : BinaryOp) (f : Found) (v : TExpr) → not (judging.is_comparison op) ≡ true → Good g vis f → alone g vis v ≡ true → Passes g vis (updated p op f v)
+  pub updated_good : (p : Spot) (op : BinaryOp) (f : Found) (v : TExpr) → Good g vis f → alone g vis v ≡ true → Passes g vis (updated p op f v)
   unfolding next
-  updated_good p op (Value e) v n h i = if_demand g vis p (judging.takes_update op) e.ty v.ty _ (λ k. tt)
-  updated_good p op (Place q) v n h i = if_demand g vis p (judging.takes_update op) q.ty v.ty _ (λ k.
-      let w = works_at (is_integer q.ty) (is_shift op) op q.ty v refl refl n i k in
+  updated_good p op (Value e) v h i = if_demand g vis p (judging.takes_update op) e.ty v.ty _ (λ k. tt)
+  updated_good p op (Place q) v h i = if_demand g vis p (judging.takes_update op) q.ty v.ty _ (λ k.
+      let w = works_at (is_integer q.ty) (is_shift op) op q.ty v refl refl i k in
       update_node p op q (working op q.ty v) false h.0 h.1 w.fits w.good refl)
 
   -- `++` and `--` add and subtract
-  pub no_comparison : (up : Bool) → not (judging.is_comparison (sum_op up)) ≡ true
-  no_comparison true = refl
-  no_comparison false = refl
-
   pub bump_takes : (up : Bool) (u : CType) → (is_integer u || judging.leads u) ≡ true → judging.takes_update (sum_op up) u (Int I32 false) ≡ true
   bump_takes true (Int k o) h = refl
   bump_takes false (Int k o) h = refl
@@ -519,7 +515,7 @@ module _ (g : Context) (vis : List ℕ) where
   unfolding next
   bump_good p up before (Value e) h = if_needs g vis p T3 (is_integer e.ty || judging.leads e.ty) _ (λ k. tt)
   bump_good p up before (Place q) h = if_needs g vis p T3 (is_integer q.ty || judging.leads q.ty) _ (λ k.
-      let w = works_at (is_integer q.ty) (is_shift (sum_op up)) (sum_op up) q.ty (record { spot = p; ty = Int I32 false; node = t.Number (pos 1) }) refl refl (no_comparison up) refl (bump_takes up q.ty k) in
+      let w = works_at (is_integer q.ty) (is_shift (sum_op up)) (sum_op up) q.ty (record { spot = p; ty = Int I32 false; node = t.Number (pos 1) }) refl refl refl (bump_takes up q.ty k) in
       update_node p (sum_op up) q (working (sum_op up) q.ty (record { spot = p; ty = Int I32 false; node = t.Number (pos 1) })) (not before) h.0 h.1 w.fits w.good (last (not (not before)) _ (bump_unit p up q.ty)))
 
   -- Numbers, names, addresses, fields and casts.

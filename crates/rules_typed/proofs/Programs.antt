@@ -66,7 +66,7 @@ agrees ds g hs fs n t w b k = record {
 all_functions : (ds : List StructDef) (g : Lookup) (hs ks : List Heading) (fs us : List TypedFunction) → Structured ds g
     → Built (record g { bodies = hs }) ds (struct_cells g.structs) g.structs hs fs → Built (record g { bodies = hs }) ds (struct_cells g.structs) g.structs ks us → all (typed.function g.structs fs) us ≡ true
 all_functions ds g hs _ fs _ w b built_none = refl
-all_functions ds g hs _ fs _ w b (built_more {f} {h} {ss} {t} {hs = ks} {ts = us} m s n rest) =
+all_functions ds g hs _ fs _ w b (built_more {f} {h} {ss} {t} {hs = ks} {ts = us} m n rest) =
     both (mine (ap (λ t. t.result) n.is)) (all_functions ds g hs ks fs us w b rest)
   where
     at : CType → Lookup
@@ -75,7 +75,7 @@ all_functions ds g hs _ fs _ w b (built_more {f} {h} {ss} {t} {hs = ks} {ts = us
     mine : t.result ≡ h.result → typed.function g.structs fs t ≡ true
     mine e =
         function_typed (at h.result) g.structs fs f h ss t
-        (subst (λ u. AgreesApart (at u) (context g.structs fs t)) e (agrees ds g hs fs (count_before f.spot ds) t w b (subst (λ u. is_result (struct_cells g.structs) (public_structs g.structs) u ≡ true) (sym e) m.result))) m s n
+        (subst (λ u. AgreesApart (at u) (context g.structs fs t)) e (agrees ds g hs fs (count_before f.spot ds) t w b (subst (λ u. is_result (struct_cells g.structs) (public_structs g.structs) u ≡ true) (sym e) m.result))) m n
 
 -- Their names.
 
@@ -87,7 +87,7 @@ heading_names (h ∷ hs) = h.name ∷ heading_names hs
 -- functions have the names of their headings
 built_names : (g : Lookup) (ds : List StructDef) (sizes : List ℕ) (structs : List StructType) (hs : List Heading) (ts : List TypedFunction) → Built g ds sizes structs hs ts → function_names ts ≡ heading_names hs
 built_names g ds sizes structs _ _ built_none = refl
-built_names g ds sizes structs _ _ (built_more {f} {h} {ss} {t} {hs} {ts} m s n rest) =
+built_names g ds sizes structs _ _ (built_more {f} {h} {ss} {t} {hs} {ts} m n rest) =
     ap (λ x. x ∷ function_names ts) (ap (λ t. t.name) n.is ∙ sym m.name) ∙ ap (λ l. h.name ∷ l) (built_names g ds sizes structs hs ts rest)
 
 -- a heading with a body has another name than the earlier ones with one
@@ -188,15 +188,15 @@ entry_found p (Some m) n q = ap (λ n. Some n) (fine_back m n q)
 -- so the tree of a program passes the test
 pub programs_typed : ProgramsAreTyped
 unfolding typed_program
-programs_typed p t b q =
+programs_typed p t q =
     let g = parted (structs_from (first_lookup p.structs) p.structs) _ t q in
     let h = parted (headings_from g.0 p.structs [] p.functions) _ t g.2 in
     let f = parted (functions_from (record g.0 { bodies = bodies_of h.0 }) p.structs [] p.functions h.0) _ t h.2 in
     let e = parted (entry p.end (entry_from 0 (bodies_of h.0))) _ t f.2 in
-    let w = structured p.structs g.0 b.structs g.1 in
+    let w = structured p.structs g.0 g.1 in
     let hs = made_headings g.0 p.structs g.0.structs (struct_cells g.0.structs) [] p.functions h.0 w.among.public (λ n. record { named = w.among.named; sized = w.among.sized; above = λ n b e. refl }) h.1 in
     let headings = subst (λ l. MadeHeadings (struct_cells g.0.structs) g.0.structs [] p.functions l) (sym hs.2) hs.1 in
-    let us = built (record g.0 { bodies = bodies_of h.0 }) p.structs (struct_cells g.0.structs) g.0.structs [] p.functions h.0 [] f.0 headings b.functions f.1 in
+    let us = built (record g.0 { bodies = bodies_of h.0 }) p.structs (struct_cells g.0.structs) g.0.structs [] p.functions h.0 [] f.0 headings f.1 in
     let all_built = subst (λ l. Built (record g.0 { bodies = bodies_of h.0 }) p.structs (struct_cells g.0.structs) g.0.structs (bodies_of h.0) l) (sym us.2) us.1 in
     let n = entry_named 0 (bodies_of h.0) e.0 (entry_found p.end (entry_from 0 (bodies_of h.0)) e.0 e.1) in
     let enters = has_function (record g.0 { bodies = bodies_of h.0 }) p.structs (struct_cells g.0.structs) g.0.structs (bodies_of h.0) f.0 n.0 n.1 all_built n.3 in

@@ -1,5 +1,5 @@
 -- What the rules give for a statement passes the test.
-use Rattle.std.proofs.Common.{ℕ, ◌+◌, ◌≡◌, List, [], ◌∷◌, ◌++◌, length, Option, Some, None, Ok, Err, refl, sym, ap, ◌∙◌, subst, Bool, true, false}
+use Rattle.std.proofs.Common.{ℕ, ◌≡◌, List, [], ◌∷◌, ◌++◌, length, Option, Some, None, Ok, Err, refl, sym, ap, ◌∙◌, subst, Bool, true, false}
 use Rattle.std.specs.Prelude.{◌&&◌, not, if◌then◌else◌, slice_get, IfOk}
 use Rattle.oc_values.specs.declared.integers.IntKind.TheVariants.{Bool as KBool}
 use Rattle.oc_cells.specs.declared.types.CType.{CType, Int}
@@ -38,11 +38,10 @@ use Rattle.oc_typing.specs.Rules.{is_type, is_nothing}
 use Rattle.oc_typing.specs.Rules as test
 use Rattle.oc_typing.specs.Typed.{Context, alone, has_type}
 use Rattle.oc_typing.specs.Typed as typed
-use Rattle.rules_typed.specs.Grammatical.{Grammatical, GrammaticalOption, GrammaticalDeclared, GrammaticalHeader, is_declaration, GrammaticalStmt, GrammaticalPart, GrammaticalRows, GrammaticalOther}
 use Rattle.rules_typed.specs.Agreeing.{Valued, GoodVariable, Agrees, Goes, AgreesApart, SeesAll}
 use Rattle.rules_typed.specs.Laws.{StatementsPass}
 use Rattle.rules_typed.proofs.Used.{value_used}
-use Rattle.rules_typed.proofs.Bools.{both, either, first, hidden_last, last, never, none_some, some_is, some_none, three}
+use Rattle.rules_typed.proofs.Bools.{both, either, first, hidden_last, last, none_some, some_is, some_none, three}
 use Rattle.rules_typed.proofs.Types.{held_of, itself, public_test}
 use Rattle.rules_typed.proofs.Nodes.{converted_good, int_good}
 use Rattle.rules_typed.proofs.Slots.{there, Adds, adds_none, adds_both, adds_one}
@@ -73,30 +72,30 @@ module _ (r : Lookup) (g : Context) (around : AgreesApart r g) where
   }
 
   -- an expression whose value is used, and one that stands alone
-  value_fact : (e : Expr) (z : Scope) (f : List SlotType) (vis : List ℕ) → Grammatical e.node → Sees vis z.seen f → IfOk (typed_value (at r z) e) (λ v. alone (among f) vis v ≡ true)
+  value_fact : (e : Expr) (z : Scope) (f : List SlotType) (vis : List ℕ) → Sees vis z.seen f → IfOk (typed_value (at r z) e) (λ v. alone (among f) vis v ≡ true)
   unfolding typed_value
-  value_fact e z f vis h i = valued_good (at r z) (among f) vis (fits z.seen f vis i) (expr (at r z) false e.spot e.node) (expressions_typed (at r z) (among f) vis e.node false e.spot (fits z.seen f vis i) h)
+  value_fact e z f vis i = valued_good (at r z) (among f) vis (fits z.seen f vis i) (expr (at r z) false e.spot e.node) (expressions_typed (at r z) (among f) vis e.node false e.spot (fits z.seen f vis i))
 
-  alone_fact : (e : Expr) (z : Scope) (f : List SlotType) (vis : List ℕ) → Grammatical e.node → Sees vis z.seen f → IfOk (typed_alone (at r z) e) (λ v. alone (among f) vis v ≡ true)
+  alone_fact : (e : Expr) (z : Scope) (f : List SlotType) (vis : List ℕ) → Sees vis z.seen f → IfOk (typed_alone (at r z) e) (λ v. alone (among f) vis v ≡ true)
   unfolding typed_alone
-  alone_fact e z f vis h i = valued_good (at r z) (among f) vis (fits z.seen f vis i) (expr (at r z) true e.spot e.node) (expressions_typed (at r z) (among f) vis e.node true e.spot (fits z.seen f vis i) h)
+  alone_fact e z f vis i = valued_good (at r z) (among f) vis (fits z.seen f vis i) (expr (at r z) true e.spot e.node) (expressions_typed (at r z) (among f) vis e.node true e.spot (fits z.seen f vis i))
 
   -- an expression passes the test wherever its names are visible
   abbrev Passed : Scope → TExpr → Type 0
   Passed z v = (f : List SlotType) (vis : List ℕ) → Sees vis z.seen f → alone (among f) vis v ≡ true
 
   -- such an expression, and what follows
-  with_value : {B : Type 0} (Q : B × Scope → Type 0) (e : Expr) (k : TExpr → Walk B) (z : Scope) → Grammatical e.node → ((v : TExpr) → Passed z v → IfOk (k v z) Q) → IfOk (bind (value_in r e) k z) Q
+  with_value : {B : Type 0} (Q : B × Scope → Type 0) (e : Expr) (k : TExpr → Walk B) (z : Scope) → ((v : TExpr) → Passed z v → IfOk (k v z) Q) → IfOk (bind (value_in r e) k z) Q
   unfolding next
-  with_value {B} Q e k z h f = on (typed_value (at r z) e) (λ l vis i. value_fact e z l vis h i) f
+  with_value {B} Q e k z f = on (typed_value (at r z) e) (λ l vis i. value_fact e z l vis i) f
     where
       on : (m : Judged TExpr) → ((l : List SlotType) (vis : List ℕ) → Sees vis z.seen l → IfOk m (λ v. alone (among l) vis v ≡ true)) → ((v : TExpr) → Passed z v → IfOk (k v z) Q) → IfOk (next {A = TExpr × Scope} (next m (λ v. Ok (v, z))) (λ x. k x.0 x.1)) Q
       on (Ok v) i f = f v i
       on (Err b) i f = tt
 
-  with_alone : {B : Type 0} (Q : B × Scope → Type 0) (e : Expr) (k : TExpr → Walk B) (z : Scope) → Grammatical e.node → ((v : TExpr) → Passed z v → IfOk (k v z) Q) → IfOk (bind (alone_in r e) k z) Q
+  with_alone : {B : Type 0} (Q : B × Scope → Type 0) (e : Expr) (k : TExpr → Walk B) (z : Scope) → ((v : TExpr) → Passed z v → IfOk (k v z) Q) → IfOk (bind (alone_in r e) k z) Q
   unfolding next
-  with_alone {B} Q e k z h f = on (typed_alone (at r z) e) (λ l vis i. alone_fact e z l vis h i) f
+  with_alone {B} Q e k z f = on (typed_alone (at r z) e) (λ l vis i. alone_fact e z l vis i) f
     where
       on : (m : Judged TExpr) → ((l : List SlotType) (vis : List ℕ) → Sees vis z.seen l → IfOk m (λ v. alone (among l) vis v ≡ true)) → ((v : TExpr) → Passed z v → IfOk (k v z) Q) → IfOk (next {A = TExpr × Scope} (next m (λ v. Ok (v, z))) (λ x. k x.0 x.1)) Q
       on (Ok v) i f = f v i
@@ -170,7 +169,7 @@ module _ (r : Lookup) (g : Context) (around : AgreesApart r g) where
   -- a variable more is visible
   pub sees_more : (z : Scope) (f : List SlotType) (vis : List ℕ) (x : List ℕ) (u : CType) (frozen : Bool) → is_type g.sizes g.public u ≡ true → Goes (add x u frozen z).slots f → Sees vis z.seen f → Sees (length z.slots ∷ vis) (add x u frozen z).seen f
   sees_more z f vis x u frozen k e h = λ y w q.
-      find_add (GoodVariable (among f) (length z.slots ∷ vis) w) z.seen (record { name = x; level = z.level; slot = length z.slots; ty = u }) y w q
+      find_add (GoodVariable (among f) (length z.slots ∷ vis) w) z.seen (record { name = x; slot = length z.slots; ty = u }) y w q
       (λ p. subst (λ w. GoodVariable (among f) (length z.slots ∷ vis) w) (sym p) (record { visible = either _ _ (number_itself (length z.slots)); slot = has_itself u frozen _ (there z.slots f (record { ty = u; frozen = frozen }) e); ty = k }))
       (λ p. let o = h y w p in record { visible = last _ _ o.visible; slot = o.slot; ty = o.ty })
 
@@ -221,25 +220,25 @@ module _ (r : Lookup) (g : Context) (around : AgreesApart r g) where
   }
 
   -- its initialiser is judged
-  initial_done : (z : Scope) (p : Spot) (x : List ℕ) (u : CType) (frozen : Bool) (o : Option Expr) → IsSlot u frozen → GrammaticalOption o → IfOk (bind (walk.initial r u o) (λ v. pure (record { spot = p; slot = length z.slots; init = v })) (add x u frozen z)) (λ q. DoneDeclared z q.0 q.1)
+  initial_done : (z : Scope) (p : Spot) (x : List ℕ) (u : CType) (frozen : Bool) (o : Option Expr) → IsSlot u frozen → IfOk (bind (walk.initial r u o) (λ v. pure (record { spot = p; slot = length z.slots; init = v })) (add x u frozen z)) (λ q. DoneDeclared z q.0 q.1)
   unfolding next
-  initial_done z p x u frozen None k h = declared_none z p x u frozen k
-  initial_done z p x u frozen (Some e) k h =
+  initial_done z p x u frozen None k = declared_none z p x u frozen k
+  initial_done z p x u frozen (Some e) k =
       with_part (λ q. (v : TExpr) × (q.0 ≡ Some v) × (q.1 ≡ add x u frozen z) × (test.is_held u ≡ true) × Turned (add x u frozen z) u v) (λ q. DoneDeclared z q.0 q.1) (walk.initial r u (Some e)) (λ v. pure (record { spot = p; slot = length z.slots; init = v })) (add x u frozen z)
-      (with_value (λ q. (v : TExpr) × (q.0 ≡ Some v) × (q.1 ≡ add x u frozen z) × (test.is_held u ≡ true) × Turned (add x u frozen z) u v) e (λ v. bind (ask (lookup.convert u v)) (λ x. pure (Some x))) (add x u frozen z) h
+      (with_value (λ q. (v : TExpr) × (q.0 ≡ Some v) × (q.1 ≡ add x u frozen z) × (test.is_held u ≡ true) × Turned (add x u frozen z) u v) e (λ v. bind (ask (lookup.convert u v)) (λ x. pure (Some x))) (add x u frozen z)
       (λ v i. with_convert (λ q. (v : TExpr) × (q.0 ≡ Some v) × (q.1 ≡ add x u frozen z) × (test.is_held u ≡ true) × Turned (add x u frozen z) u v) u v (λ x. pure (Some x)) (add x u frozen z) (λ c. (lookup.converted u v, refl, refl, held_of v.ty u c, turned_value (add x u frozen z) u v (slot_type u frozen k) i c))))
       (λ a t q. subst (λ t. DoneDeclared z (record { spot = p; slot = length z.slots; init = a }) t) (sym q.2) (subst (λ a. DoneDeclared z (record { spot = p; slot = length z.slots; init = a }) (add x u frozen z)) (sym q.1) (declared_some z p x u frozen q.0 k q.3 q.4)))
 
   -- a declaration
-  declare_done : (d : Declared) (z : Scope) → GrammaticalOption d.init → IfOk (declare r d z) (λ q. DoneDeclared z q.0 q.1)
+  declare_done : (d : Declared) (z : Scope) → IfOk (declare r d z) (λ q. DoneDeclared z q.0 q.1)
   unfolding next
-  declare_done d z h = on (field_type r d.field) (not (is_taken z.seen z.level d.field.name)) around_declared
+  declare_done d z = on (field_type r d.field) (not (is_taken z d.field.name)) around_declared
     where
       around_declared : (u : CType) → field_type r d.field ≡ Ok u → IsSlot u (is_frozen_place d.field.base d.field.stars)
       around_declared u q = around.declared d.field u q
 
       on : (m : Judged CType) (b : Bool) → ((u : CType) → m ≡ Ok u → IsSlot u (is_frozen_place d.field.base d.field.stars)) → IfOk (next m (λ ty. next (needs d.field.spot T2 b) (λ _. bind {B = made_declared.TDeclared} (walk.initial r ty d.init) (λ v. pure (record { spot = d.field.spot; slot = length z.slots; init = v })) (add d.field.name ty (is_frozen_place d.field.base d.field.stars) z)))) (λ q. DoneDeclared z q.0 q.1)
-      on (Ok u) true i = initial_done z d.field.spot d.field.name u (is_frozen_place d.field.base d.field.stars) d.init (i u refl) h
+      on (Ok u) true i = initial_done z d.field.spot d.field.name u (is_frozen_place d.field.base d.field.stars) d.init (i u refl)
       on (Ok u) false i = tt
       on (Err e) b i = tt
 
@@ -250,11 +249,11 @@ module _ (r : Lookup) (g : Context) (around : AgreesApart r g) where
     pub sees : (f : List SlotType) (vis : List ℕ) → Goes t.slots f → Sees vis z.seen f → Sees (visible.after_all vis xs) t.seen f
 
   -- declarations in order
-  declare_all_done : (ds : List Declared) (z : Scope) → GrammaticalDeclared ds → IfOk (declare_all r ds z) (λ q. DoneAll z q.0 q.1)
-  declare_all_done [] z h = record { adds = adds_none g z.slots; test = λ f vis e i. refl; sees = λ f vis e i. i }
-  declare_all_done (d ∷ ds) z h =
-      with_part (λ q. DoneDeclared z q.0 q.1) (λ q. DoneAll z q.0 q.1) (declare r d) (λ x. bind (declare_all r ds) (λ xs. pure (x ∷ xs))) z (declare_done d z h.0)
-      (λ x t a. with_part (λ q. DoneAll t q.0 q.1) (λ q. DoneAll z q.0 q.1) (declare_all r ds) (λ xs. pure (x ∷ xs)) t (declare_all_done ds t h.1)
+  declare_all_done : (ds : List Declared) (z : Scope) → IfOk (declare_all r ds z) (λ q. DoneAll z q.0 q.1)
+  declare_all_done [] z = record { adds = adds_none g z.slots; test = λ f vis e i. refl; sees = λ f vis e i. i }
+  declare_all_done (d ∷ ds) z =
+      with_part (λ q. DoneDeclared z q.0 q.1) (λ q. DoneAll z q.0 q.1) (declare r d) (λ x. bind (declare_all r ds) (λ xs. pure (x ∷ xs))) z (declare_done d z)
+      (λ x t a. with_part (λ q. DoneAll t q.0 q.1) (λ q. DoneAll z q.0 q.1) (declare_all r ds) (λ xs. pure (x ∷ xs)) t (declare_all_done ds t)
       (λ xs w b. record {
         adds = adds_both g z.slots t.slots w.slots (x.slot ∷ []) (typed.slots_of xs) a.adds b.adds;
         test = λ f vis e i. both (a.test f vis (b.adds.grows f e) i) (b.test f (x.slot ∷ vis) e (a.sees f vis (b.adds.grows f e) i));
@@ -263,22 +262,17 @@ module _ (r : Lookup) (g : Context) (around : AgreesApart r g) where
 
   -- Statements.
 
-  -- a statement, of which it is known whether it declares
-  pub record Done (declares : Bool) (loop : Bool) (z : Scope) (x : made_stmt.TStmt) (t : Scope) : Type 0 where
+  -- a statement
+  pub record Done (loop : Bool) (z : Scope) (x : made_stmt.TStmt) (t : Scope) : Type 0 where
     pub adds : Adds g z.slots t.slots (typed.slots_in x.node)
     pub test : (f : List SlotType) (vis : List ℕ) → Goes t.slots f → Sees vis z.seen f → typed.stmt (among f) loop vis x.node ≡ true
     pub sees : (f : List SlotType) (vis : List ℕ) → Goes t.slots f → Sees vis z.seen f → Sees (visible.after_node vis x.node) t.seen f
-    pub still : declares ≡ false → (vis : List ℕ) → visible.after_node vis x.node ≡ vis
 
   -- a statement's part: what was visible stays so
   pub record DonePart (loop : Bool) (z : Scope) (x : made_stmt.TStmt) (t : Scope) : Type 0 where
     pub adds : Adds g z.slots t.slots (typed.slots_in x.node)
     pub test : (f : List SlotType) (vis : List ℕ) → Goes t.slots f → Sees vis z.seen f → typed.stmt (among f) loop vis x.node ≡ true
     pub sees : (f : List SlotType) (vis : List ℕ) → Goes t.slots f → Sees vis z.seen f → Sees vis t.seen f
-
-  -- a statement that is no declaration, as a part
-  as_part : (d loop : Bool) (z : Scope) (x : made_stmt.TStmt) (t : Scope) → d ≡ false → Done d loop z x t → DonePart loop z x t
-  as_part d loop z x t q h = record { adds = h.adds; test = h.test; sees = λ f vis e i. subst (λ v. Sees v t.seen f) (h.still q vis) (h.sees f vis e i) }
 
   -- the test of the part after an `else`
   abbrev other_test : List SlotType → Bool → List ℕ → Option made_stmt.TStmt → Type 0
@@ -341,9 +335,9 @@ module _ (r : Lookup) (g : Context) (around : AgreesApart r g) where
   unfolding hidden-the_row-TStmt-0 hidden-the_row-TStmt-1 hidden
   while_slots c a = refl
 
-  always_slots : (n : ℕ) (p : Spot) (ss : List made_stmt.TStmt) → typed.slots_in (s.Always n (made_stmt.roll-TStmt (record { spot = p; node = s.Block ss }))) ≡ n ∷ typed.slots_in_all ss
+  always_slots : (n : ℕ) (a : made_stmt.TStmt) → typed.slots_in (s.Always n a) ≡ n ∷ typed.slots_in a.node
   unfolding hidden-the_row-TStmt-0 hidden-the_row-TStmt-1 hidden
-  always_slots n p ss = ap (λ l. n ∷ l) (slots_same ss)
+  always_slots n a = refl
 
   for_slots : (i : made_init.TForInit) (c v : Option TExpr) (a : made_stmt.TStmt) → typed.slots_in (s.For i c v a) ≡ typed.slots_of_header i ++ typed.slots_in a.node
   unfolding hidden-the_row-TStmt-0 hidden-the_row-TStmt-1 hidden
@@ -386,9 +380,9 @@ module _ (r : Lookup) (g : Context) (around : AgreesApart r g) where
   while_still c a vis = refl
 
   -- the node of a `~obliv`
-  always_node : (f : List SlotType) (loop : Bool) (vis : List ℕ) (n : ℕ) (p : Spot) (ss : List made_stmt.TStmt) → has_type (Int KBool true) (slice_get f n) ≡ true → rows_test f loop (n ∷ vis) ss ≡ true → typed.stmt (among f) loop vis (s.Always n (made_stmt.roll-TStmt (record { spot = p; node = s.Block ss }))) ≡ true
+  always_node : (f : List SlotType) (loop : Bool) (vis : List ℕ) (n : ℕ) (a : made_stmt.TStmt) → has_type (Int KBool true) (slice_get f n) ≡ true → typed.stmt (among f) loop (n ∷ vis) a.node ≡ true → typed.stmt (among f) loop vis (s.Always n a) ≡ true
   unfolding hidden-the_row-TStmt-0 hidden-the_row-TStmt-1 hidden
-  always_node f loop vis n p ss h i = three h refl (rows_same f loop (n ∷ vis) ss ∙ i)
+  always_node f loop vis n a h i = both h i
 
   always_still : (n : ℕ) (a : made_stmt.TStmt) (vis : List ℕ) → visible.after_node vis (s.Always n a) ≡ vis
   unfolding hidden-the_row-TStmt-0 hidden-the_row-TStmt-1 hidden
@@ -404,11 +398,11 @@ module _ (r : Lookup) (g : Context) (around : AgreesApart r g) where
   for_still i c v a vis = refl
 
   -- a part with a scope of its own
-  scoped_ok : {A : Type 0} (P Q : A × Scope → Type 0) (m : Walk A) (z : Scope) → IfOk (m (record z { level = z.level + 1 })) P → ((a : A) (t : Scope) → P (a, t) → Q (a, record { seen = z.seen; slots = t.slots; level = z.level })) → IfOk (scoped m z) Q
+  scoped_ok : {A : Type 0} (P Q : A × Scope → Type 0) (m : Walk A) (z : Scope) → IfOk (m (record z { outer = length z.seen })) P → ((a : A) (t : Scope) → P (a, t) → Q (a, record { seen = z.seen; slots = t.slots; outer = z.outer })) → IfOk (scoped m z) Q
   unfolding next
-  scoped_ok {A} P Q m z h f = on (m (record z { level = z.level + 1 })) h
+  scoped_ok {A} P Q m z h f = on (m (record z { outer = length z.seen })) h
     where
-      on : (x : Judged (A × Scope)) → IfOk x P → IfOk (next {B = A × Scope} x (λ q. Ok (q.0, record { seen = z.seen; slots = q.1.slots; level = z.level }))) Q
+      on : (x : Judged (A × Scope)) → IfOk x P → IfOk (next {B = A × Scope} x (λ q. Ok (q.0, record { seen = z.seen; slots = q.1.slots; outer = z.outer }))) Q
       on (Ok x) h = f x.0 x.1 h
       on (Err b) h = tt
 
@@ -422,21 +416,21 @@ module _ (r : Lookup) (g : Context) (around : AgreesApart r g) where
   PassedOption z (Some v) = Passed z v × UsedIn z v
 
   -- an expression with a value, and what follows
-  with_used : {B : Type 0} (Q : B × Scope → Type 0) (e : Expr) (k : TExpr → Walk B) (z : Scope) → Grammatical e.node → ((v : TExpr) → Passed z v → UsedIn z v → IfOk (k v z) Q) → IfOk (bind (value_in r e) k z) Q
+  with_used : {B : Type 0} (Q : B × Scope → Type 0) (e : Expr) (k : TExpr → Walk B) (z : Scope) → ((v : TExpr) → Passed z v → UsedIn z v → IfOk (k v z) Q) → IfOk (bind (value_in r e) k z) Q
   unfolding next typed_value
-  with_used {B} Q e k z h f = on (typed_value (at r z) e) (λ l vis i. value_fact e z l vis h i) (λ v q l vis a. value_used (at r z) e.spot e.node v q (among l) vis a) f
+  with_used {B} Q e k z f = on (typed_value (at r z) e) (λ l vis i. value_fact e z l vis i) (λ v q l vis a. value_used (at r z) e.spot e.node v q (among l) vis a) f
     where
       on : (m : Judged TExpr) → ((l : List SlotType) (vis : List ℕ) → Sees vis z.seen l → IfOk m (λ v. alone (among l) vis v ≡ true)) → ((v : TExpr) → m ≡ Ok v → (l : List SlotType) (vis : List ℕ) → alone (among l) vis v ≡ true → not (is_nothing v.ty) ≡ true) → ((v : TExpr) → Passed z v → UsedIn z v → IfOk (k v z) Q) → IfOk (next {A = TExpr × Scope} (next m (λ v. Ok (v, z))) (λ x. k x.0 x.1)) Q
       on (Ok v) i j f = f v i (λ l vis s. j v refl l vis (i l vis s))
       on (Err b) i j f = tt
 
   -- one that may be missing, and what follows
-  with_optional : {B : Type 0} (Q : B × Scope → Type 0) (o : Option Expr) (k : Option TExpr → Walk B) (z : Scope) → GrammaticalOption o → ((y : Option TExpr) → PassedOption z y → IfOk (k y z) Q) → IfOk (bind (optional_in r o) k z) Q
+  with_optional : {B : Type 0} (Q : B × Scope → Type 0) (o : Option Expr) (k : Option TExpr → Walk B) (z : Scope) → ((y : Option TExpr) → PassedOption z y → IfOk (k y z) Q) → IfOk (bind (optional_in r o) k z) Q
   unfolding next
-  with_optional Q None k z h f = f None tt
-  with_optional {B} Q (Some e) k z h f =
+  with_optional Q None k z f = f None tt
+  with_optional {B} Q (Some e) k z f =
       with_part (λ q. (v : TExpr) × (q.0 ≡ Some v) × (q.1 ≡ z) × PassedOption z (Some v)) Q (optional_in r (Some e)) k z
-      (with_used (λ q. (v : TExpr) × (q.0 ≡ Some v) × (q.1 ≡ z) × PassedOption z (Some v)) e (λ v. pure (Some v)) z h (λ v i j. (v, refl, refl, (i, j))))
+      (with_used (λ q. (v : TExpr) × (q.0 ≡ Some v) × (q.1 ≡ z) × PassedOption z (Some v)) e (λ v. pure (Some v)) z (λ v i j. (v, refl, refl, (i, j))))
       (λ a t q. subst (λ t. IfOk (k a t) Q) (sym q.2) (subst (λ a. IfOk (k a z) Q) (sym q.1) (f (Some q.0) q.3)))
 
   -- a public integer, if it is there
@@ -457,12 +451,12 @@ module _ (r : Lookup) (g : Context) (around : AgreesApart r g) where
     pub sees : (f : List SlotType) (vis : List ℕ) → Goes t.slots f → Sees vis z.seen f → Sees (visible.after_header vis i) t.seen f
 
   -- the header of a `for`
-  header_done : (i : ForInit) (z : Scope) → GrammaticalHeader i → IfOk (walk.header r i z) (λ q. DoneHeader z q.0 q.1)
-  header_done begin.Nothing z h = record { adds = adds_none g z.slots; test = λ f vis e i. refl; sees = λ f vis e i. i }
-  header_done (begin.Declare ds) z h =
-      with_part (λ q. DoneAll z q.0 q.1) (λ q. DoneHeader z q.0 q.1) (declare_all r ds) (λ xs. pure (init.Declare xs)) z (declare_all_done ds z h) (λ xs t a. record { adds = a.adds; test = a.test; sees = a.sees })
-  header_done (begin.Express e) z h =
-      with_used (λ q. DoneHeader z q.0 q.1) e (λ v. pure (init.Express v)) z h (λ v i n. record { adds = adds_none g z.slots; test = λ f vis e j. both (n f vis j) (i f vis j); sees = λ f vis e j. j })
+  header_done : (i : ForInit) (z : Scope) → IfOk (walk.header r i z) (λ q. DoneHeader z q.0 q.1)
+  header_done begin.Nothing z = record { adds = adds_none g z.slots; test = λ f vis e i. refl; sees = λ f vis e i. i }
+  header_done (begin.Declare ds) z =
+      with_part (λ q. DoneAll z q.0 q.1) (λ q. DoneHeader z q.0 q.1) (declare_all r ds) (λ xs. pure (init.Declare xs)) z (declare_all_done ds z) (λ xs t a. record { adds = a.adds; test = a.test; sees = a.sees })
+  header_done (begin.Express e) z =
+      with_used (λ q. DoneHeader z q.0 q.1) e (λ v. pure (init.Express v)) z (λ v i n. record { adds = adds_none g z.slots; test = λ f vis e j. both (n f vis j) (i f vis j); sees = λ f vis e j. j })
 
   -- a condition and a step that may be missing
   maybe_condition : (f : List SlotType) (vis : List ℕ) (z : Scope) (o : Option TExpr) → PassedOption z o → ((v : TExpr) → o ≡ Some v → test.is_public v.ty ≡ true) → Sees vis z.seen f → typed.maybe (typed.condition (among f) vis) o ≡ true
@@ -486,151 +480,143 @@ module _ (r : Lookup) (g : Context) (around : AgreesApart r g) where
     pub sees : t.seen ≡ z.seen
 
   -- its names end
-  from_inner : (d loop : Bool) (z : Scope) (x : made_stmt.TStmt) (t : Scope) → Inner loop z x t → Done d loop z x (record { seen = z.seen; slots = t.slots; level = z.level })
-  from_inner d loop z x t h = record { adds = h.adds; test = h.test; sees = λ f vis e i. subst (λ v. Sees v z.seen f) (sym (h.still vis)) i; still = λ q vis. h.still vis }
+  from_inner : (loop : Bool) (z : Scope) (x : made_stmt.TStmt) (t : Scope) → Inner loop z x t → Done loop z x (record { seen = z.seen; slots = t.slots; outer = z.outer })
+  from_inner loop z x t h = record { adds = h.adds; test = h.test; sees = λ f vis e i. subst (λ v. Sees v z.seen f) (sym (h.still vis)) i }
 
   -- a `return`
-  returned_done : (loop : Bool) (p : Spot) (o : Option TExpr) (z : Scope) → PassedOption z o → IfOk (bind (ask (walk.returned r p o)) (λ x. walk.made p (s.Return x)) z) (λ q. Done false loop z q.0 q.1)
+  returned_done : (loop : Bool) (p : Spot) (o : Option TExpr) (z : Scope) → PassedOption z o → IfOk (bind (ask (walk.returned r p o)) (λ x. walk.made p (s.Return x)) z) (λ q. Done loop z q.0 q.1)
   unfolding next
   returned_done loop p None z h = on (is_nothing r.result) (λ q. subst (λ u. is_nothing u ≡ true) around.same_result q)
     where
-      on : (b : Bool) → (b ≡ true → is_nothing g.result ≡ true) → IfOk (next {A = Option TExpr × Scope} (next {A = Option TExpr} (next {A = Unit {0}} (needs p T3 b) (λ _. Ok None)) (λ a. Ok (a, z))) (λ x. walk.made p (s.Return x.0) x.1)) (λ q. Done false loop z q.0 q.1)
-      on true f = record { adds = adds_none g z.slots; test = λ l vis e i. f refl; sees = λ l vis e i. i; still = λ q vis. refl }
+      on : (b : Bool) → (b ≡ true → is_nothing g.result ≡ true) → IfOk (next {A = Option TExpr × Scope} (next {A = Option TExpr} (next {A = Unit {0}} (needs p T3 b) (λ _. Ok None)) (λ a. Ok (a, z))) (λ x. walk.made p (s.Return x.0) x.1)) (λ q. Done loop z q.0 q.1)
+      on true f = record { adds = adds_none g z.slots; test = λ l vis e i. f refl; sees = λ l vis e i. i }
       on false f = tt
   returned_done loop p (Some v) z h = on (not (is_nothing r.result)) (λ q. subst (λ u. not (is_nothing u) ≡ true) around.same_result q)
     where
-      on : (b : Bool) → (b ≡ true → not (is_nothing g.result) ≡ true) → IfOk (next {A = Option TExpr × Scope} (next {A = Option TExpr} (next {A = Unit {0}} (needs p T3 b) (λ _. next (lookup.convert r.result v) (λ x. Ok (Some x)))) (λ a. Ok (a, z))) (λ x. walk.made p (s.Return x.0) x.1)) (λ q. Done false loop z q.0 q.1)
+      on : (b : Bool) → (b ≡ true → not (is_nothing g.result) ≡ true) → IfOk (next {A = Option TExpr × Scope} (next {A = Option TExpr} (next {A = Unit {0}} (needs p T3 b) (λ _. next (lookup.convert r.result v) (λ x. Ok (Some x)))) (λ a. Ok (a, z))) (λ x. walk.made p (s.Return x.0) x.1)) (λ q. Done loop z q.0 q.1)
       on false f = tt
       on true f = give (judging.converts v.ty r.result) (judging.converts (judging.bare v.ty) (judging.bare r.result)) (λ c. turned_value z r.result v (subst (λ u. is_type g.sizes g.public u ≡ true) (sym around.same_result) (around.back (f refl))) h.0 c)
         where
-          give : (c d : Bool) → (c ≡ true → Turned z r.result (lookup.converted r.result v)) → IfOk (next {A = Option TExpr × Scope} (next {A = Option TExpr} (next {A = TExpr} (next {A = Unit {0}} (if c then Ok (tt {0}) else if d then breaks v.spot T4 else breaks v.spot T3) (λ _. Ok (lookup.converted r.result v))) (λ x. Ok (Some x))) (λ a. Ok (a, z))) (λ x. walk.made p (s.Return x.0) x.1)) (λ q. Done false loop z q.0 q.1)
-          give true d t = record { adds = adds_none g z.slots; test = λ l vis e i. let w = t refl l vis i in three (f refl) (subst (λ u. same true u g.result ≡ true) (sym (w.ty ∙ around.same_result)) (itself g.result)) w.good; sees = λ l vis e i. i; still = λ q vis. refl }
+          give : (c d : Bool) → (c ≡ true → Turned z r.result (lookup.converted r.result v)) → IfOk (next {A = Option TExpr × Scope} (next {A = Option TExpr} (next {A = TExpr} (next {A = Unit {0}} (if c then Ok (tt {0}) else if d then breaks v.spot T4 else breaks v.spot T3) (λ _. Ok (lookup.converted r.result v))) (λ x. Ok (Some x))) (λ a. Ok (a, z))) (λ x. walk.made p (s.Return x.0) x.1)) (λ q. Done loop z q.0 q.1)
+          give true d t = record { adds = adds_none g z.slots; test = λ l vis e i. let w = t refl l vis i in three (f refl) (subst (λ u. same true u g.result ≡ true) (sym (w.ty ∙ around.same_result)) (itself g.result)) w.good; sees = λ l vis e i. i }
           give false true t = tt
           give false false t = tt
 
-  -- a `~obliv` with its block
-  always_done : (loop : Bool) (p q : Spot) (x : List ℕ) (z : Scope) (ss : List made_stmt.TStmt) (t : Scope) → DoneBlock loop (add x (Int KBool true) false z) ss t → Inner loop z (made_stmt.roll-TStmt (record { spot = p; node = s.Always (length z.slots) (made_stmt.roll-TStmt (record { spot = q; node = s.Block ss })) })) t
-  always_done loop p q x z ss t h = record {
-    adds = subst (λ l. Adds g z.slots t.slots l) (sym (always_slots (length z.slots) q ss)) (adds_both g z.slots (z.slots ++ record { ty = Int KBool true; frozen = false } ∷ []) t.slots (length z.slots ∷ []) (typed.slots_in_all ss) (adds_one g z.slots (record { ty = Int KBool true; frozen = false }) refl) h.adds);
-    test = λ f vis e i. always_node f loop vis (length z.slots) q ss (has_itself (Int KBool true) false _ (there z.slots f (record { ty = Int KBool true; frozen = false }) (h.adds.grows f e))) (h.test f (length z.slots ∷ vis) e (sees_more z f vis x (Int KBool true) false refl (h.adds.grows f e) i));
-    still = λ vis. always_still (length z.slots) (made_stmt.roll-TStmt (record { spot = q; node = s.Block ss })) vis;
+  -- a `~obliv` with its part
+  always_done : (loop : Bool) (p : Spot) (x : List ℕ) (z : Scope) (a : made_stmt.TStmt) (t : Scope) → DonePart loop (add x (Int KBool true) false z) a t → Inner loop z (made_stmt.roll-TStmt (record { spot = p; node = s.Always (length z.slots) a })) t
+  always_done loop p x z a t h = record {
+    adds = subst (λ l. Adds g z.slots t.slots l) (sym (always_slots (length z.slots) a)) (adds_both g z.slots (z.slots ++ record { ty = Int KBool true; frozen = false } ∷ []) t.slots (length z.slots ∷ []) (typed.slots_in a.node) (adds_one g z.slots (record { ty = Int KBool true; frozen = false }) refl) h.adds);
+    test = λ f vis e i. always_node f loop vis (length z.slots) a (has_itself (Int KBool true) false _ (there z.slots f (record { ty = Int KBool true; frozen = false }) (h.adds.grows f e))) (h.test f (length z.slots ∷ vis) e (sees_more z f vis x (Int KBool true) false refl (h.adds.grows f e) i));
+    still = λ vis. always_still (length z.slots) a vis;
   }
-
-  -- a part that is no declaration
-  part_of : (d loop : Bool) (z : Scope) (m : Judged (made_stmt.TStmt × Scope)) → d ≡ false → IfOk m (λ q. Done d loop z q.0 q.1) → IfOk m (λ q. DonePart loop z q.0 q.1)
-  part_of d loop z (Ok x) q h = as_part d loop z x.0 x.1 q h
-  part_of d loop z (Err b) q h = tt
 
   -- no statement, and one before others
   pub rows_none : (loop : Bool) (z : Scope) → DoneRows loop z [] z
   rows_none loop z = record { adds = adds_none g z.slots; test = λ f vis e i. refl }
 
-  pub rows_more : (d loop : Bool) (z : Scope) (m : Walk made_stmt.TStmt) (rest : Walk (List made_stmt.TStmt)) → IfOk (m z) (λ q. Done d loop z q.0 q.1) → ((t : Scope) → IfOk (rest t) (λ q. DoneRows loop t q.0 q.1)) → IfOk (bind m (λ x. bind rest (λ xs. pure (x ∷ xs))) z) (λ q. DoneRows loop z q.0 q.1)
-  rows_more d loop z m rest h f =
-      with_part (λ q. Done d loop z q.0 q.1) (λ q. DoneRows loop z q.0 q.1) m (λ x. bind rest (λ xs. pure (x ∷ xs))) z h (λ x t a.
+  pub rows_more : (loop : Bool) (z : Scope) (m : Walk made_stmt.TStmt) (rest : Walk (List made_stmt.TStmt)) → IfOk (m z) (λ q. Done loop z q.0 q.1) → ((t : Scope) → IfOk (rest t) (λ q. DoneRows loop t q.0 q.1)) → IfOk (bind m (λ x. bind rest (λ xs. pure (x ∷ xs))) z) (λ q. DoneRows loop z q.0 q.1)
+  rows_more loop z m rest h f =
+      with_part (λ q. Done loop z q.0 q.1) (λ q. DoneRows loop z q.0 q.1) m (λ x. bind rest (λ xs. pure (x ∷ xs))) z h (λ x t a.
       with_part (λ q. DoneRows loop t q.0 q.1) (λ q. DoneRows loop z q.0 q.1) rest (λ xs. pure (x ∷ xs)) t (f t) (λ xs w b. record {
         adds = adds_both g z.slots t.slots w.slots (typed.slots_in x.node) (typed.slots_in_all xs) a.adds b.adds;
         test = λ l vis e i. both (a.test l vis (b.adds.grows l e) i) (b.test l (visible.after_node vis x.node) e (a.sees l vis (b.adds.grows l e) i));
       }))
 
-  -- the level of a scope is no matter
-  header_level : (i : ForInit) (z : Scope) → GrammaticalHeader i → IfOk (walk.header r i (record z { level = z.level + 1 })) (λ q. DoneHeader z q.0 q.1)
-  header_level i z h = weaker (walk.header r i (record z { level = z.level + 1 })) (header_done i (record z { level = z.level + 1 }) h)
+  -- where a scope begins is no matter
+  header_level : (i : ForInit) (z : Scope) → IfOk (walk.header r i (record z { outer = length z.seen })) (λ q. DoneHeader z q.0 q.1)
+  header_level i z = weaker (walk.header r i (record z { outer = length z.seen })) (header_done i (record z { outer = length z.seen }))
     where
-      weaker : (m : Judged (made_init.TForInit × Scope)) → IfOk m (λ q. DoneHeader (record z { level = z.level + 1 }) q.0 q.1) → IfOk m (λ q. DoneHeader z q.0 q.1)
+      weaker : (m : Judged (made_init.TForInit × Scope)) → IfOk m (λ q. DoneHeader (record z { outer = length z.seen }) q.0 q.1) → IfOk m (λ q. DoneHeader z q.0 q.1)
       weaker (Ok x) h = record { adds = h.adds; test = h.test; sees = h.sees }
       weaker (Err b) h = tt
 
-  inner_level : (loop : Bool) (p q : Spot) (x : List ℕ) (z : Scope) (ss : List made_stmt.TStmt) (t : Scope) → DoneBlock loop (add x (Int KBool true) false (record z { level = z.level + 1 })) ss t → Inner loop z (made_stmt.roll-TStmt (record { spot = p; node = s.Always (length z.slots) (made_stmt.roll-TStmt (record { spot = q; node = s.Block ss })) })) t
-  inner_level loop p q x z ss t h =
-      let k = always_done loop p q x (record z { level = z.level + 1 }) ss t h in
+  inner_level : (loop : Bool) (p : Spot) (x : List ℕ) (z : Scope) (a : made_stmt.TStmt) (t : Scope) → DonePart loop (add x (Int KBool true) false (record z { outer = length z.seen })) a t → Inner loop z (made_stmt.roll-TStmt (record { spot = p; node = s.Always (length z.slots) a })) t
+  inner_level loop p x z a t h =
+      let k = always_done loop p x (record z { outer = length z.seen }) a t h in
       record { adds = k.adds; test = k.test; still = k.still }
 
   mutual
     unfolding next
 
     -- each form of a statement
-    pub stmt_done : (c : StmtNode) (loop : Bool) (p : Spot) (z : Scope) → GrammaticalStmt c → IfOk (walk.stmt r loop p c z) (λ q. Done (is_declaration c) loop z q.0 q.1)
-    stmt_done (Declare ds) loop p z h =
-        with_part (λ q. DoneAll z q.0 q.1) (λ q. Done true loop z q.0 q.1) (declare_all r ds) (λ xs. walk.made p (s.Declare xs)) z (declare_all_done ds z h)
-        (λ xs t a. record { adds = a.adds; test = a.test; sees = a.sees; still = λ q vis. never (sym q) })
-    stmt_done (Express e) loop p z h =
-        with_alone (λ q. Done false loop z q.0 q.1) e (λ v. walk.made p (s.Express v)) z h (λ v i. record { adds = adds_none g z.slots; test = λ f vis e j. i f vis j; sees = λ f vis e j. j; still = λ q vis. refl })
-    stmt_done (Block' _ ss) loop p z h =
-        with_part (λ q. DoneBlock loop z q.0 q.1) (λ q. Done false loop z q.0 q.1) (scoped (walk.stmts r loop ss)) (λ xs. walk.made p (s.Block xs)) z (block_done ss loop z h)
-        (λ xs t a. record { adds = subst (λ l. Adds g z.slots t.slots l) (sym (block_slots xs)) a.adds; test = λ f vis e i. block_node f loop vis xs (a.test f vis e i); sees = λ f vis e i. subst (λ v. Sees v t.seen f) (sym (block_still xs vis)) (subst (λ l. Sees vis l f) (sym a.sees) i); still = λ q vis. block_still xs vis })
-    stmt_done (If' c _ y n) loop p z h =
-        with_value (λ q. Done false loop z q.0 q.1) c (λ v. bind (ask (public_integer p v.ty)) (λ _. bind (walk.part r loop y) (λ a. bind (walk.other r loop n) (λ b. walk.made p (s.If v a b))))) z h.0 (λ v i.
-        with_public (λ q. Done false loop z q.0 q.1) p v.ty (bind (walk.part r loop y) (λ a. bind (walk.other r loop n) (λ b. walk.made p (s.If v a b)))) z (λ k.
-        with_part (λ q. DonePart loop z q.0 q.1) (λ q. Done false loop z q.0 q.1) (walk.part r loop y) (λ a. bind (walk.other r loop n) (λ b. walk.made p (s.If v a b))) z (part_done y loop z h.1) (λ a t d.
-        with_part (λ q. DoneOther loop t q.0 q.1) (λ q. Done false loop z q.0 q.1) (walk.other r loop n) (λ b. walk.made p (s.If v a b)) t (other_done n loop t h.2) (λ o w b. record {
+    pub stmt_done : (c : StmtNode) (loop : Bool) (p : Spot) (z : Scope) → IfOk (walk.stmt r loop p c z) (λ q. Done loop z q.0 q.1)
+    stmt_done (Declare ds) loop p z =
+        with_part (λ q. DoneAll z q.0 q.1) (λ q. Done loop z q.0 q.1) (declare_all r ds) (λ xs. walk.made p (s.Declare xs)) z (declare_all_done ds z)
+        (λ xs t a. record { adds = a.adds; test = a.test; sees = a.sees })
+    stmt_done (Express e) loop p z =
+        with_alone (λ q. Done loop z q.0 q.1) e (λ v. walk.made p (s.Express v)) z (λ v i. record { adds = adds_none g z.slots; test = λ f vis e j. i f vis j; sees = λ f vis e j. j })
+    stmt_done (Block' _ ss) loop p z =
+        with_part (λ q. DoneBlock loop z q.0 q.1) (λ q. Done loop z q.0 q.1) (scoped (walk.stmts r loop ss)) (λ xs. walk.made p (s.Block xs)) z (block_done ss loop z)
+        (λ xs t a. record { adds = subst (λ l. Adds g z.slots t.slots l) (sym (block_slots xs)) a.adds; test = λ f vis e i. block_node f loop vis xs (a.test f vis e i); sees = λ f vis e i. subst (λ v. Sees v t.seen f) (sym (block_still xs vis)) (subst (λ l. Sees vis l f) (sym a.sees) i) })
+    stmt_done (If' c _ y n) loop p z =
+        with_value (λ q. Done loop z q.0 q.1) c (λ v. bind (ask (public_integer p v.ty)) (λ _. bind (walk.part r loop y) (λ a. bind (walk.other r loop n) (λ b. walk.made p (s.If v a b))))) z (λ v i.
+        with_public (λ q. Done loop z q.0 q.1) p v.ty (bind (walk.part r loop y) (λ a. bind (walk.other r loop n) (λ b. walk.made p (s.If v a b)))) z (λ k.
+        with_part (λ q. DonePart loop z q.0 q.1) (λ q. Done loop z q.0 q.1) (walk.part r loop y) (λ a. bind (walk.other r loop n) (λ b. walk.made p (s.If v a b))) z (part_done y loop z) (λ a t d.
+        with_part (λ q. DoneOther loop t q.0 q.1) (λ q. Done loop z q.0 q.1) (walk.other r loop n) (λ b. walk.made p (s.If v a b)) t (other_done n loop t) (λ o w b. record {
           adds = subst (λ l. Adds g z.slots w.slots l) (sym (if_slots v a o)) (adds_both g z.slots t.slots w.slots (typed.slots_in a.node) (slots_after o) d.adds b.adds);
           test = λ f vis e j. if_node f loop vis v a o (both k (i f vis j)) (d.test f vis (b.adds.grows f e) j) (b.test f vis e (d.sees f vis (b.adds.grows f e) j));
           sees = λ f vis e j. subst (λ u. Sees u w.seen f) (sym (if_still v a o vis)) (b.sees f vis e (d.sees f vis (b.adds.grows f e) j));
-          still = λ q vis. if_still v a o vis;
         }))))
-    stmt_done (OblivIf' c _ y n) loop p z h =
-        with_value (λ q. Done false loop z q.0 q.1) c (λ v. bind (ask (needs p T3 (judging.is_integer v.ty))) (λ _. bind (walk.part r loop y) (λ a. bind (walk.other r loop n) (λ b. walk.made p (s.OblivIf (lookup.converted (Int KBool true) v) a b))))) z h.0 (λ v i.
-        with_needs (λ q. Done false loop z q.0 q.1) p T3 (judging.is_integer v.ty) (bind (walk.part r loop y) (λ a. bind (walk.other r loop n) (λ b. walk.made p (s.OblivIf (lookup.converted (Int KBool true) v) a b)))) z (λ k.
-        with_part (λ q. DonePart loop z q.0 q.1) (λ q. Done false loop z q.0 q.1) (walk.part r loop y) (λ a. bind (walk.other r loop n) (λ b. walk.made p (s.OblivIf (lookup.converted (Int KBool true) v) a b))) z (part_done y loop z h.1) (λ a t d.
-        with_part (λ q. DoneOther loop t q.0 q.1) (λ q. Done false loop z q.0 q.1) (walk.other r loop n) (λ b. walk.made p (s.OblivIf (lookup.converted (Int KBool true) v) a b)) t (other_done n loop t h.2) (λ o w b. record {
+    stmt_done (OblivIf' c _ y n) loop p z =
+        with_value (λ q. Done loop z q.0 q.1) c (λ v. bind (ask (needs p T3 (judging.is_integer v.ty))) (λ _. bind (walk.part r loop y) (λ a. bind (walk.other r loop n) (λ b. walk.made p (s.OblivIf (lookup.converted (Int KBool true) v) a b))))) z (λ v i.
+        with_needs (λ q. Done loop z q.0 q.1) p T3 (judging.is_integer v.ty) (bind (walk.part r loop y) (λ a. bind (walk.other r loop n) (λ b. walk.made p (s.OblivIf (lookup.converted (Int KBool true) v) a b)))) z (λ k.
+        with_part (λ q. DonePart loop z q.0 q.1) (λ q. Done loop z q.0 q.1) (walk.part r loop y) (λ a. bind (walk.other r loop n) (λ b. walk.made p (s.OblivIf (lookup.converted (Int KBool true) v) a b))) z (part_done y loop z) (λ a t d.
+        with_part (λ q. DoneOther loop t q.0 q.1) (λ q. Done loop z q.0 q.1) (walk.other r loop n) (λ b. walk.made p (s.OblivIf (lookup.converted (Int KBool true) v) a b)) t (other_done n loop t) (λ o w b. record {
           adds = subst (λ l. Adds g z.slots w.slots l) (sym (hidden_slots (lookup.converted (Int KBool true) v) a o)) (adds_both g z.slots t.slots w.slots (typed.slots_in a.node) (slots_after o) d.adds b.adds);
           test = λ f vis e j. hidden_node f loop vis (lookup.converted (Int KBool true) v) a o (int_good (among f) vis KBool true v (i f vis j) k (hidden_last (judging.is_hidden v.ty))) (d.test f vis (b.adds.grows f e) j) (b.test f vis e (d.sees f vis (b.adds.grows f e) j));
           sees = λ f vis e j. subst (λ u. Sees u w.seen f) (sym (hidden_still (lookup.converted (Int KBool true) v) a o vis)) (b.sees f vis e (d.sees f vis (b.adds.grows f e) j));
-          still = λ q vis. hidden_still (lookup.converted (Int KBool true) v) a o vis;
         }))))
-    stmt_done (Always' x _ (more_of-Stmt q (Block' _ ss) rest)) loop p z h =
-        scoped_ok (λ y. Inner loop z y.0 y.1) (λ y. Done false loop z y.0 y.1) (bind (walk.name_mark x) (λ n. bind (walk.part r loop (more_of-Stmt q (Block' _ ss) rest)) (λ a. walk.made p (s.Always n a)))) z
-        (with_part (λ y. (xs : List made_stmt.TStmt) × (y.0 ≡ made_stmt.roll-TStmt (record { spot = q; node = s.Block xs })) × DoneBlock loop (add x (Int KBool true) false (record z { level = z.level + 1 })) xs y.1) (λ y. Inner loop z y.0 y.1) (walk.part r loop (more_of-Stmt q (Block' _ ss) rest)) (λ a. walk.made p (s.Always (length z.slots) a)) (add x (Int KBool true) false (record z { level = z.level + 1 }))
-        (with_part (λ y. DoneBlock loop (add x (Int KBool true) false (record z { level = z.level + 1 })) y.0 y.1) (λ y. (xs : List made_stmt.TStmt) × (y.0 ≡ made_stmt.roll-TStmt (record { spot = q; node = s.Block xs })) × DoneBlock loop (add x (Int KBool true) false (record z { level = z.level + 1 })) xs y.1) (scoped (walk.stmts r loop ss)) (λ xs. walk.made q (s.Block xs)) (add x (Int KBool true) false (record z { level = z.level + 1 })) (block_done ss loop (add x (Int KBool true) false (record z { level = z.level + 1 })) h) (λ xs t b. (xs, refl, b)))
-        (λ a t b. subst (λ a. Inner loop z (made_stmt.roll-TStmt (record { spot = p; node = s.Always (length z.slots) a })) t) (sym b.1) (inner_level loop p q x z b.0 t b.2)))
-        (λ a t b. from_inner false loop z a t b)
-    stmt_done (Always' x _ _) loop p z h = absurd h
-    stmt_done (While' c _ b) loop p z h =
-        with_value (λ q. Done false loop z q.0 q.1) c (λ v. bind (ask (public_integer p v.ty)) (λ _. bind (walk.part r true b) (λ a. walk.made p (s.While v a)))) z h.0 (λ v i.
-        with_public (λ q. Done false loop z q.0 q.1) p v.ty (bind (walk.part r true b) (λ a. walk.made p (s.While v a))) z (λ k.
-        with_part (λ q. DonePart true z q.0 q.1) (λ q. Done false loop z q.0 q.1) (walk.part r true b) (λ a. walk.made p (s.While v a)) z (part_done b true z h.1) (λ a t d. record {
+    stmt_done (Always' x _ b) loop p z =
+        scoped_ok (λ y. Inner loop z y.0 y.1) (λ y. Done loop z y.0 y.1) (bind (walk.name_mark x) (λ n. bind (walk.part r loop b) (λ a. walk.made p (s.Always n a)))) z
+        (with_part (λ y. DonePart loop (add x (Int KBool true) false (record z { outer = length z.seen })) y.0 y.1) (λ y. Inner loop z y.0 y.1) (walk.part r loop b) (λ a. walk.made p (s.Always (length z.slots) a)) (add x (Int KBool true) false (record z { outer = length z.seen })) (part_done b loop (add x (Int KBool true) false (record z { outer = length z.seen })))
+        (λ a t d. inner_level loop p x z a t d))
+        (λ a t q. from_inner loop z a t q)
+    stmt_done (While' c _ b) loop p z =
+        with_value (λ q. Done loop z q.0 q.1) c (λ v. bind (ask (public_integer p v.ty)) (λ _. bind (walk.part r true b) (λ a. walk.made p (s.While v a)))) z (λ v i.
+        with_public (λ q. Done loop z q.0 q.1) p v.ty (bind (walk.part r true b) (λ a. walk.made p (s.While v a))) z (λ k.
+        with_part (λ q. DonePart true z q.0 q.1) (λ q. Done loop z q.0 q.1) (walk.part r true b) (λ a. walk.made p (s.While v a)) z (part_done b true z) (λ a t d. record {
           adds = subst (λ l. Adds g z.slots t.slots l) (sym (while_slots v a)) d.adds;
           test = λ f vis e j. while_node f loop vis v a (both k (i f vis j)) (d.test f vis e j);
           sees = λ f vis e j. subst (λ u. Sees u t.seen f) (sym (while_still v a vis)) (d.sees f vis e j);
-          still = λ q vis. while_still v a vis;
         })))
-    stmt_done (For' i c v _ b) loop p z h =
-        scoped_ok (λ y. Inner loop z y.0 y.1) (λ y. Done false loop z y.0 y.1) (bind (walk.header r i) (λ x. bind (optional_in r c) (λ y. bind (optional_in r v) (λ w. bind (ask (walk.condition p y)) (λ _. bind (walk.part r true b) (λ a. walk.made p (s.For x y w a))))))) z
-        (with_part (λ y. DoneHeader z y.0 y.1) (λ y. Inner loop z y.0 y.1) (walk.header r i) (λ x. bind (optional_in r c) (λ y. bind (optional_in r v) (λ w. bind (ask (walk.condition p y)) (λ _. bind (walk.part r true b) (λ a. walk.made p (s.For x y w a)))))) (record z { level = z.level + 1 }) (header_level i z h.0) (λ x t d.
-        with_optional (λ y. Inner loop z y.0 y.1) c (λ y. bind (optional_in r v) (λ w. bind (ask (walk.condition p y)) (λ _. bind (walk.part r true b) (λ a. walk.made p (s.For x y w a))))) t h.1 (λ y j.
-        with_optional (λ y. Inner loop z y.0 y.1) v (λ w. bind (ask (walk.condition p y)) (λ _. bind (walk.part r true b) (λ a. walk.made p (s.For x y w a)))) t h.2 (λ w k.
+    stmt_done (For' i c v _ b) loop p z =
+        scoped_ok (λ y. Inner loop z y.0 y.1) (λ y. Done loop z y.0 y.1) (bind (walk.header r i) (λ x. bind (optional_in r c) (λ y. bind (optional_in r v) (λ w. bind (ask (walk.condition p y)) (λ _. bind (walk.part r true b) (λ a. walk.made p (s.For x y w a))))))) z
+        (with_part (λ y. DoneHeader z y.0 y.1) (λ y. Inner loop z y.0 y.1) (walk.header r i) (λ x. bind (optional_in r c) (λ y. bind (optional_in r v) (λ w. bind (ask (walk.condition p y)) (λ _. bind (walk.part r true b) (λ a. walk.made p (s.For x y w a)))))) (record z { outer = length z.seen }) (header_level i z) (λ x t d.
+        with_optional (λ y. Inner loop z y.0 y.1) c (λ y. bind (optional_in r v) (λ w. bind (ask (walk.condition p y)) (λ _. bind (walk.part r true b) (λ a. walk.made p (s.For x y w a))))) t (λ y j.
+        with_optional (λ y. Inner loop z y.0 y.1) v (λ w. bind (ask (walk.condition p y)) (λ _. bind (walk.part r true b) (λ a. walk.made p (s.For x y w a)))) t (λ w k.
         with_condition (λ y. Inner loop z y.0 y.1) p y (bind (walk.part r true b) (λ a. walk.made p (s.For x y w a))) t (λ _ _ _. tt) (λ l.
-        with_part (λ y. DonePart true t y.0 y.1) (λ y. Inner loop z y.0 y.1) (walk.part r true b) (λ a. walk.made p (s.For x y w a)) t (part_done b true t h.3) (λ a m n. record {
+        with_part (λ y. DonePart true t y.0 y.1) (λ y. Inner loop z y.0 y.1) (walk.part r true b) (λ a. walk.made p (s.For x y w a)) t (part_done b true t) (λ a m n. record {
           adds = subst (λ l. Adds g z.slots m.slots l) (sym (for_slots x y w a)) (adds_both g z.slots t.slots m.slots (typed.slots_of_header x) (typed.slots_in a.node) d.adds n.adds);
           test = λ f vis e o. let see = d.sees f vis (n.adds.grows f e) o in for_node f loop vis x y w a (d.test f vis (n.adds.grows f e) o) (maybe_condition f (visible.after_header vis x) t y j l see) (maybe_value f (visible.after_header vis x) t w k see) (n.test f (visible.after_header vis x) e see);
           still = λ vis. for_still x y w a vis;
         }))))))
-        (λ a t q. from_inner false loop z a t q)
-    stmt_done (Return e) loop p z h = with_optional (λ q. Done false loop z q.0 q.1) e (λ v. bind (ask (walk.returned r p v)) (λ x. walk.made p (s.Return x))) z h (λ y i. returned_done loop p y z i)
-    stmt_done Break loop p z h = with_needs (λ q. Done false loop z q.0 q.1) p T12 loop (walk.made p s.Break) z (λ k. record { adds = adds_none g z.slots; test = λ f vis e j. k; sees = λ f vis e j. j; still = λ q vis. refl })
-    stmt_done Continue loop p z h = with_needs (λ q. Done false loop z q.0 q.1) p T12 loop (walk.made p s.Continue) z (λ k. record { adds = adds_none g z.slots; test = λ f vis e j. k; sees = λ f vis e j. j; still = λ q vis. refl })
-    stmt_done Empty loop p z h = record { adds = adds_none g z.slots; test = λ f vis e j. refl; sees = λ f vis e j. j; still = λ q vis. refl }
+        (λ a t q. from_inner loop z a t q)
+    stmt_done (Return e) loop p z = with_optional (λ q. Done loop z q.0 q.1) e (λ v. bind (ask (walk.returned r p v)) (λ x. walk.made p (s.Return x))) z (λ y i. returned_done loop p y z i)
+    stmt_done Break loop p z = with_needs (λ q. Done loop z q.0 q.1) p T12 loop (walk.made p s.Break) z (λ k. record { adds = adds_none g z.slots; test = λ f vis e j. k; sees = λ f vis e j. j })
+    stmt_done Continue loop p z = with_needs (λ q. Done loop z q.0 q.1) p T12 loop (walk.made p s.Continue) z (λ k. record { adds = adds_none g z.slots; test = λ f vis e j. k; sees = λ f vis e j. j })
+    stmt_done Empty loop p z = record { adds = adds_none g z.slots; test = λ f vis e j. refl; sees = λ f vis e j. j }
 
-    part_done : (c : Row_of-Stmt 1) (loop : Bool) (z : Scope) → GrammaticalPart c → IfOk (walk.part r loop c z) (λ q. DonePart loop z q.0 q.1)
-    part_done (more_of-Stmt p n rest) loop z h = part_of (is_declaration n) loop z (walk.stmt r loop p n z) h.0 (stmt_done n loop p z h.1)
+    part_done : (c : Row_of-Stmt 1) (loop : Bool) (z : Scope) → IfOk (walk.part r loop c z) (λ q. DonePart loop z q.0 q.1)
+    part_done (more_of-Stmt p n rest) loop z =
+        scoped_ok (λ q. Done loop (record z { outer = length z.seen }) q.0 q.1) (λ q. DonePart loop z q.0 q.1) (walk.stmt r loop p n) z (stmt_done n loop p (record z { outer = length z.seen }))
+        (λ a t q. record { adds = q.adds; test = q.test; sees = λ f vis e i. i })
 
-    other_done : (c : Held-StmtNode-If-2) (loop : Bool) (z : Scope) → GrammaticalOther c → IfOk (walk.other r loop c z) (λ q. DoneOther loop z q.0 q.1)
-    other_done None' loop z h = record { adds = adds_none g z.slots; test = λ f vis e i. tt; sees = λ f vis e i. i }
-    other_done (Some' _ y) loop z h = with_part (λ q. DonePart loop z q.0 q.1) (λ q. DoneOther loop z q.0 q.1) (walk.part r loop y) (λ x. pure (Some x)) z (part_done y loop z h) (λ x t a. record { adds = a.adds; test = a.test; sees = a.sees })
+    other_done : (c : Held-StmtNode-If-2) (loop : Bool) (z : Scope) → IfOk (walk.other r loop c z) (λ q. DoneOther loop z q.0 q.1)
+    other_done None' loop z = record { adds = adds_none g z.slots; test = λ f vis e i. tt; sees = λ f vis e i. i }
+    other_done (Some' _ y) loop z = with_part (λ q. DonePart loop z q.0 q.1) (λ q. DoneOther loop z q.0 q.1) (walk.part r loop y) (λ x. pure (Some x)) z (part_done y loop z) (λ x t a. record { adds = a.adds; test = a.test; sees = a.sees })
 
-    block_done : {m : _} (c : Row_of-Stmt m) (loop : Bool) (z : Scope) → GrammaticalRows c → IfOk (scoped (walk.stmts r loop c) z) (λ q. DoneBlock loop z q.0 q.1)
-    block_done end_of-Stmt loop z h = scoped_ok (λ q. DoneRows loop (record z { level = z.level + 1 }) q.0 q.1) (λ q. DoneBlock loop z q.0 q.1) (walk.stmts r loop end_of-Stmt) z (rows_none loop (record z { level = z.level + 1 })) (λ a t q. record { adds = q.adds; test = q.test; sees = refl })
-    block_done (more_of-Stmt p n rest) loop z h = scoped_ok (λ q. DoneRows loop (record z { level = z.level + 1 }) q.0 q.1) (λ q. DoneBlock loop z q.0 q.1) (walk.stmts r loop (more_of-Stmt p n rest)) z (rows_more (is_declaration n) loop (record z { level = z.level + 1 }) (walk.stmt r loop p n) (walk.stmts r loop rest) (stmt_done n loop p (record z { level = z.level + 1 }) h.0) (λ t. rows_done rest loop t h.1)) (λ a t q. record { adds = q.adds; test = q.test; sees = refl })
+    block_done : {m : _} (c : Row_of-Stmt m) (loop : Bool) (z : Scope) → IfOk (scoped (walk.stmts r loop c) z) (λ q. DoneBlock loop z q.0 q.1)
+    block_done end_of-Stmt loop z = scoped_ok (λ q. DoneRows loop (record z { outer = length z.seen }) q.0 q.1) (λ q. DoneBlock loop z q.0 q.1) (walk.stmts r loop end_of-Stmt) z (rows_none loop (record z { outer = length z.seen })) (λ a t q. record { adds = q.adds; test = q.test; sees = refl })
+    block_done (more_of-Stmt p n rest) loop z = scoped_ok (λ q. DoneRows loop (record z { outer = length z.seen }) q.0 q.1) (λ q. DoneBlock loop z q.0 q.1) (walk.stmts r loop (more_of-Stmt p n rest)) z (rows_more loop (record z { outer = length z.seen }) (walk.stmt r loop p n) (walk.stmts r loop rest) (stmt_done n loop p (record z { outer = length z.seen })) (λ t. rows_done rest loop t)) (λ a t q. record { adds = q.adds; test = q.test; sees = refl })
 
-    rows_done : {m : _} (c : Row_of-Stmt m) (loop : Bool) (z : Scope) → GrammaticalRows c → IfOk (walk.stmts r loop c z) (λ q. DoneRows loop z q.0 q.1)
-    rows_done end_of-Stmt loop z h = rows_none loop z
-    rows_done (more_of-Stmt p n rest) loop z h = rows_more (is_declaration n) loop z (walk.stmt r loop p n) (walk.stmts r loop rest) (stmt_done n loop p z h.0) (λ t. rows_done rest loop t h.1)
+    rows_done : {m : _} (c : Row_of-Stmt m) (loop : Bool) (z : Scope) → IfOk (walk.stmts r loop c z) (λ q. DoneRows loop z q.0 q.1)
+    rows_done end_of-Stmt loop z = rows_none loop z
+    rows_done (more_of-Stmt p n rest) loop z = rows_more loop z (walk.stmt r loop p n) (walk.stmts r loop rest) (stmt_done n loop p z) (λ t. rows_done rest loop t)
 
 -- so each statement passes
 pub statements_typed : StatementsPass
-statements_typed r g c loop p z around h = shown (walk.stmt r loop p c z) (stmt_done r g around c loop p z h)
+statements_typed r g c loop p z around = shown (walk.stmt r loop p c z) (stmt_done r g around c loop p z)
   where
-    shown : (m : Judged (made_stmt.TStmt × Scope)) → IfOk m (λ q. Done r g around (is_declaration c) loop z q.0 q.1) → IfOk m (λ q. (f : List SlotType) (vis : List ℕ) → Goes q.1.slots f → SeesAll g vis z.seen f → typed.stmt (record g { slots = f }) loop vis q.0.node ≡ true)
+    shown : (m : Judged (made_stmt.TStmt × Scope)) → IfOk m (λ q. Done r g around loop z q.0 q.1) → IfOk m (λ q. (f : List SlotType) (vis : List ℕ) → Goes q.1.slots f → SeesAll g vis z.seen f → typed.stmt (record g { slots = f }) loop vis q.0.node ≡ true)
     shown (Ok x) h = h.test
     shown (Err b) h = tt

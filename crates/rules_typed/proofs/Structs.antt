@@ -9,7 +9,7 @@ use denote.Hole.Carrier.{hidden}
 use Rattle.oc_cells.specs.declared.types.FieldType.{FieldType}
 use Rattle.oc_cells.specs.declared.types.StructType.{StructType}
 use Rattle.oc_cells.specs.Types.{holds_public, holds_public_row, some_public, public_after, public_structs, normal, normal_row}
-use Rattle.oc_cells.specs.Layout.{cells, field_cells, cells_after, struct_cells}
+use Rattle.oc_cells.specs.Layout.{field_cells, cells_after, struct_cells}
 use Rattle.oc_source.specs.declared.parsed.BaseName.{BaseName}
 use Rattle.oc_source.specs.declared.parsed.BaseKind.{BaseKind}
 use Rattle.oc_source.specs.declared.parsed.BaseKind.TheVariants as base
@@ -22,7 +22,6 @@ use Rattle.type_rules.specs.Lookup.{Lookup, same_name}
 use Rattle.type_rules.specs.Written.{has_name, number_from, number_or, struct_named, base_kind, base_type, base_public, field_public, some_public_field, public_from, struct_names, starred, arrays, cells_of, fields, depths_after, struct_type, with_struct, structs_from}
 use Rattle.type_rules.specs.ProgramRules.{first_lookup}
 use Rattle.type_rules.proofs.Laws.{fine_back, not_both, parted}
-use Rattle.rules_typed.specs.Grammatical.{has_fields, GrammaticalStructs}
 use Rattle.rules_typed.proofs.Bools.{never, both, three, first, second}
 use Rattle.rules_typed.proofs.Slots.{one_on, length_one, all_one}
 use Rattle.rules_typed.proofs.WrittenTypes.{needed, is_cells, cells_at, Known, Least, Declares, declares, field_least, field_fits, field_good}
@@ -92,15 +91,6 @@ fields_differ g earlier at (f ∷ fs) (t ∷ ts) m =
       subst (λ x. all (λ y. is_new y (x ∷ field_names ts)) earlier ≡ true) (sym m.1) (new_before earlier f.name (field_names ts) m.3 theirs),
       both (subst (λ x. is_new x (field_names ts) ≡ true) (sym m.1) mine) z.1,
     )
-
--- a struct with a field has a cell
-fields_least : (g : Lookup) (earlier : List (List ℕ)) (at : ℕ) (fs : List FieldDef) (ts : List FieldType) → has_fields fs ≡ true → Least g (struct_cells g.structs) → MadeFields g earlier at fs ts → nat_le 1 (field_cells (struct_cells g.structs) ts) ≡ true
-fields_least g earlier at [] ts b l m = never b
-fields_least g earlier at (f ∷ fs) [] b l m = absurd m
-fields_least g earlier at (f ∷ fs) (t ∷ ts) b l m = more (cells (struct_cells g.structs) t.ty) (field_cells (struct_cells g.structs) ts) (field_least g f t.ty l m.0)
-  where
-    more : (a b : ℕ) → nat_le 1 a ≡ true → nat_le 1 (a + b) ≡ true
-    more a b h = grind arith
 
 -- Public data.
 
@@ -173,7 +163,7 @@ pub record MadeStruct (g : Lookup) (d : StructDef) (s : StructType) : Type 0 whe
   pub name : s.name ≡ d.name
   pub cells : s.cells ≡ field_cells (struct_cells g.structs) s.fields
   pub fresh : has_name (take g.above g.names) d.name ≡ false
-  pub fits : nat_le (field_cells (struct_cells g.structs) s.fields) 65536 ≡ true
+  pub sized : is_cells (field_cells (struct_cells g.structs) s.fields) ≡ true
   pub deep : nat_lt (field_depth (depths_after [] g.structs) s.fields) 64 ≡ true
 
 -- what is found for a struct
@@ -181,15 +171,15 @@ made_struct : (g : Lookup) (d : StructDef) (s : StructType) → struct_type g d 
 made_struct g d s q =
     let y = parted (fields g [] 0 d.fields) _ s q in
     let n = needed d.spot T2 (not (has_name (take g.above g.names) d.name)) _ s y.2 in
-    let m = needed d.spot T11 (nat_le (field_cells (struct_cells g.structs) y.0) 65536 && nat_lt (field_depth (depths_after [] g.structs) y.0) 64) _ s n.1 in
+    let m = needed d.spot T11 (is_cells (field_cells (struct_cells g.structs) y.0) && nat_lt (field_depth (depths_after [] g.structs) y.0) 64) _ s n.1 in
     subst (λ s. MadeStruct g d s) (fine_back (record { name = d.name; fields = y.0; cells = field_cells (struct_cells g.structs) y.0 }) s m.1)
     (record {
       made = made_fields g [] 0 d.fields y.0 y.1;
       name = refl;
       cells = refl;
       fresh = not-true (has_name (take g.above g.names) d.name) n.0;
-      fits = first (nat_le (field_cells (struct_cells g.structs) y.0) 65536) (nat_lt (field_depth (depths_after [] g.structs) y.0) 64) m.0;
-      deep = second (nat_le (field_cells (struct_cells g.structs) y.0) 65536) (nat_lt (field_depth (depths_after [] g.structs) y.0) 64) m.0;
+      sized = first (is_cells (field_cells (struct_cells g.structs) y.0)) (nat_lt (field_depth (depths_after [] g.structs) y.0) 64) m.0;
+      deep = second (is_cells (field_cells (struct_cells g.structs) y.0)) (nat_lt (field_depth (depths_after [] g.structs) y.0) 64) m.0;
     })
 
 -- structs that are judged one after another
@@ -295,22 +285,18 @@ one_above g s a = next g.above (length g.structs) a ∙ sym (length_one g.struct
     next : (n m : ℕ) → n ≡ m → n + 1 ≡ suc m
     next n m e = omega arith
 
--- a struct has from 1 to 65,536 cells
-struct_sized : (g : Lookup) (d : StructDef) (s : StructType) → has_fields d.fields ≡ true → Least g (struct_cells g.structs) → MadeStruct g d s → is_cells (field_cells (struct_cells g.structs) s.fields) ≡ true
-struct_sized g d s b l m = both (fields_least g [] 0 d.fields s.fields b l m.made) m.fits
-
 -- with it each has
 sized_with : (g : Lookup) (s : StructType) → all is_cells (struct_cells g.structs) ≡ true → is_cells (field_cells (struct_cells g.structs) s.fields) ≡ true → all is_cells (struct_cells (g.structs ++ s ∷ [])) ≡ true
 sized_with g s h i = subst (λ l. all is_cells l ≡ true) (sym (cells_one g.structs s)) (all_one is_cells (struct_cells g.structs) (field_cells (struct_cells g.structs) s.fields) h i)
 
 -- all structs have
-all_sized : (g : Lookup) (ds : List StructDef) (ss : List StructType) → GrammaticalStructs ds → g.above ≡ length g.structs → all is_cells (struct_cells g.structs) ≡ true → MadeAll g ds ss → all is_cells (struct_cells (g.structs ++ ss)) ≡ true
-all_sized g [] [] b a h m = subst (λ l. all is_cells (struct_cells l) ≡ true) (sym (append-nil g.structs)) h
-all_sized g [] (s ∷ ss) b a h m = absurd m
-all_sized g (d ∷ ds) [] b a h m = absurd m
-all_sized g (d ∷ ds) (s ∷ ss) b a h m =
+all_sized : (g : Lookup) (ds : List StructDef) (ss : List StructType) → g.above ≡ length g.structs → all is_cells (struct_cells g.structs) ≡ true → MadeAll g ds ss → all is_cells (struct_cells (g.structs ++ ss)) ≡ true
+all_sized g [] [] a h m = subst (λ l. all is_cells (struct_cells l) ≡ true) (sym (append-nil g.structs)) h
+all_sized g [] (s ∷ ss) a h m = absurd m
+all_sized g (d ∷ ds) [] a h m = absurd m
+all_sized g (d ∷ ds) (s ∷ ss) a h m =
     subst (λ l. all is_cells (struct_cells l) ≡ true) (one_on g.structs ss s)
-    (all_sized (with_struct g s) ds ss b.1 (one_above g s a) (sized_with g s h (struct_sized g d s b.0 (least_above g a h) m.0)) m.1)
+    (all_sized (with_struct g s) ds ss (one_above g s a) (sized_with g s h m.0.sized) m.1)
 
 -- all structs, their sizes and what they hold
 pub record Among (g : Lookup) (all_of : List StructType) : Type 0 where
@@ -331,17 +317,17 @@ less_deep : (n : ℕ) → nat_lt n 64 ≡ true → nat_le n 63 ≡ true
 less_deep n h = grind arith
 
 -- structs pass the test
-structs_typed : (g : Lookup) (ds : List StructDef) (ss : List StructType) → GrammaticalStructs ds → g.above ≡ length g.structs → all is_cells (struct_cells g.structs) ≡ true → Among g (g.structs ++ ss) → MadeAll g ds ss
+structs_typed : (g : Lookup) (ds : List StructDef) (ss : List StructType) → g.above ≡ length g.structs → all is_cells (struct_cells g.structs) ≡ true → Among g (g.structs ++ ss) → MadeAll g ds ss
     → are_structs (struct_cells (g.structs ++ ss)) (public_structs (g.structs ++ ss)) (struct_cells g.structs) (depths_after [] g.structs) ss ≡ true
-structs_typed g [] [] b a h w m = refl
-structs_typed g [] (s ∷ ss) b a h w m = absurd m
-structs_typed g (d ∷ ds) [] b a h w m = absurd m
-structs_typed g (d ∷ ds) (s ∷ ss) b a h w m =
+structs_typed g [] [] a h w m = refl
+structs_typed g [] (s ∷ ss) a h w m = absurd m
+structs_typed g (d ∷ ds) [] a h w m = absurd m
+structs_typed g (d ∷ ds) (s ∷ ss) a h w m =
     let l = least_above g a h in
-    let i = struct_sized g d s b.0 l m.0 in
+    let i = m.0.sized in
     let mine = fields_typed g (g.structs ++ s ∷ ss) (struct_cells (g.structs ++ s ∷ ss)) [] 0 d.fields s.fields w.public (known_at g (s ∷ ss) w a) l m.0.made in
     let cells = subst (λ c. is_cells c ≡ true) (sym m.0.cells) i in
-    let r = structs_typed (with_struct g s) ds ss b.1 (one_above g s a) (sized_with g s h i) (subst (λ l. Among (with_struct g s) l) (sym (one_on g.structs ss s)) (record { public = w.public; named = w.named; sized = w.sized })) m.1 in
+    let r = structs_typed (with_struct g s) ds ss (one_above g s a) (sized_with g s h i) (subst (λ l. Among (with_struct g s) l) (sym (one_on g.structs ss s)) (record { public = w.public; named = w.named; sized = w.sized })) m.1 in
     both (both (both (both (both (both
     (subst (λ c. nat_eq c (field_cells (struct_cells g.structs) s.fields) ≡ true) (sym m.0.cells) (number_itself (field_cells (struct_cells g.structs) s.fields)))
     (first (nat_le 1 s.cells) (nat_le s.cells 65536) cells)) (second (nat_le 1 s.cells) (nat_le s.cells 65536) cells))
@@ -416,8 +402,8 @@ names_list : (ds : List StructDef) (ss : List StructType) → test.struct_names 
 names_list ds ss e = sym (ap (λ l. length l) e) ∙ names_length ss ∙ sym (cells_length ss)
 
 -- what is found for the structs of a program
-pub structured : (ds : List StructDef) (g : Lookup) → GrammaticalStructs ds → structs_from (first_lookup ds) ds ≡ Ok g → Structured ds g
-structured ds g b q =
+pub structured : (ds : List StructDef) (g : Lookup) → structs_from (first_lookup ds) ds ≡ Ok g → Structured ds g
+structured ds g q =
     let z = made_all (first_lookup ds) ds g q in
     subst (λ g. Structured ds g) (sym z.2) (after z.0 z.1 (all_structs (first_lookup ds) z.0))
   where
@@ -426,9 +412,9 @@ structured ds g b q =
         let first_among : Among (first_lookup ds) ss = record {
           public = all_hold (first_lookup ds) [] ds ss m;
           named = names_list ds ss (names_made (first_lookup ds) ds ss m);
-          sized = all_sized (first_lookup ds) ds ss b refl refl m;
+          sized = all_sized (first_lookup ds) ds ss refl refl m;
         } in
-        let there = structs_typed (first_lookup ds) ds ss b refl refl first_among m in
+        let there = structs_typed (first_lookup ds) ds ss refl refl first_among m in
         record {
           among = subst (λ l. Among (with_all (first_lookup ds) ss) l) (sym e) (record {
             public = all_public (first_lookup ds) ss ∙ first_among.public;

@@ -197,23 +197,33 @@ pointer_other (Array' n v s) h i = h
 pointer_other (Struct n) h i = h
 pointer_other Nothing h i = h
 
--- an update of an integer takes an integer that may be stored in it
-pub as_integers : (op : BinaryOp) (u y : CType) → is_integer u ≡ true → judging.takes_update op u y ≡ true → (both_integers u y && (not (is_hidden y) || is_hidden u)) ≡ true
+-- what an operator that computes takes, apart from steps
+abbrev pub computed : BinaryOp → CType → CType → Bool
+computed op u y = both_integers u y && not (judging.is_comparison op) && (not (is_hidden y) || is_hidden u)
+
+-- an update of an integer computes, of an integer that may be stored in it
+pub as_integers : (op : BinaryOp) (u y : CType) → is_integer u ≡ true → judging.takes_update op u y ≡ true → computed op u y ≡ true
 as_integers op u y i k =
-    either_way (both_integers u y && (not (is_hidden y) || is_hidden u)) ((judging.is_add op || judging.is_minus op) && judging.steps u y) (λ a. a)
+    either_way (computed op u y) ((judging.is_add op || judging.is_minus op) && judging.steps u y) (λ a. a)
     (λ b. never (pointer_other u i (first (judging.leads u) (judging.is_public y) (second (judging.is_add op || judging.is_minus op) (judging.steps u y) b)))) k
 
 pub value_integer : (op : BinaryOp) (u y : CType) → is_integer u ≡ true → judging.takes_update op u y ≡ true → is_integer y ≡ true
-value_integer op u y i k = second (is_integer u) (is_integer y) (first (both_integers u y) (not (is_hidden y) || is_hidden u) (as_integers op u y i k))
+value_integer op u y i k =
+    second (is_integer u) (is_integer y)
+    (first (both_integers u y) (not (judging.is_comparison op)) (first (both_integers u y && not (judging.is_comparison op)) (not (is_hidden y) || is_hidden u) (as_integers op u y i k)))
+
+pub computes : (op : BinaryOp) (u y : CType) → is_integer u ≡ true → judging.takes_update op u y ≡ true → not (judging.is_comparison op) ≡ true
+computes op u y i k =
+    second (both_integers u y) (not (judging.is_comparison op)) (first (both_integers u y && not (judging.is_comparison op)) (not (is_hidden y) || is_hidden u) (as_integers op u y i k))
 
 pub value_marked : (op : BinaryOp) (u y : CType) → is_integer u ≡ true → judging.takes_update op u y ≡ true → (not (is_hidden y) || is_hidden u) ≡ true
-value_marked op u y i k = second (both_integers u y) (not (is_hidden y) || is_hidden u) (as_integers op u y i k)
+value_marked op u y i k = second (both_integers u y && not (judging.is_comparison op)) (not (is_hidden y) || is_hidden u) (as_integers op u y i k)
 
 -- an update of what is no integer is a step
 pub only_steps : (op : BinaryOp) (u y : CType) → is_integer u ≡ false → judging.takes_update op u y ≡ true → ((judging.is_add op || judging.is_minus op) && judging.steps u y) ≡ true
 only_steps op u y i k =
-    either_way (both_integers u y && (not (is_hidden y) || is_hidden u)) ((judging.is_add op || judging.is_minus op) && judging.steps u y)
-    (λ a. never (sym i ∙ first (is_integer u) (is_integer y) (first (both_integers u y) (not (is_hidden y) || is_hidden u) a))) (λ b. b) k
+    either_way (computed op u y) ((judging.is_add op || judging.is_minus op) && judging.steps u y)
+    (λ a. never (sym i ∙ first (is_integer u) (is_integer y) (first (both_integers u y) (not (judging.is_comparison op)) (first (both_integers u y && not (judging.is_comparison op)) (not (is_hidden y) || is_hidden u) a)))) (λ b. b) k
 
 -- marks are like themselves
 pub alike_itself : (o : Bool) → alike o o ≡ true

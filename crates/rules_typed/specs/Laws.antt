@@ -12,24 +12,23 @@ use Rattle.type_rules.specs.Lookup.{Lookup}
 use Rattle.type_rules.specs.Rules.{expr}
 use Rattle.type_rules.specs.StatementRules.{Scope, stmt}
 use Rattle.type_rules.specs.ProgramRules.{typed_program}
-use Rattle.rules_typed.specs.Grammatical.{Grammatical, GrammaticalStmt, GrammaticalProgram}
 use Rattle.rules_typed.specs.Agreeing.{Passes, Agrees, AgreesApart, Goes, SeesAll}
 
 -- of an expression: where the rules look up what the context has, it breaks a rule, or what they give passes the test
 abbrev pub ExpressionsPass : Type 0
 ExpressionsPass =
     (r : Lookup) (g : Context) (vis : List ℕ) (n : ExprNode) (alone_here : Bool) (p : Spot)
-    → Agrees r g vis → Grammatical n → Passes g vis (expr r alone_here p n)
+    → Agrees r g vis → Passes g vis (expr r alone_here p n)
 
 -- of a statement: it breaks a rule, or what the rules give passes the test among any slots that go on from those after it
 abbrev pub StatementsPass : Type 0
 StatementsPass =
     (r : Lookup) (g : Context) (c : StmtNode) (loop : Bool) (p : Spot) (z : Scope)
-    → AgreesApart r g → GrammaticalStmt c
+    → AgreesApart r g
     → IfOk (stmt r loop p c z) (λ q. (f : List SlotType) (vis : List ℕ) → Goes q.1.slots f → SeesAll g vis z.seen f
     → typed.stmt (record g { slots = f }) loop vis q.0.node ≡ true)
 
 -- of a program: it breaks a rule, or its typed tree passes the test
 abbrev pub ProgramsAreTyped : Type 0
 ProgramsAreTyped =
-    (p : Program) (t : TypedTree) → GrammaticalProgram p → typed_program p ≡ Ok t → is_well_typed t ≡ true
+    (p : Program) (t : TypedTree) → typed_program p ≡ Ok t → is_well_typed t ≡ true

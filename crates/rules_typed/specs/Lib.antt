@@ -1,3 +1,2 @@
-pub mod Grammatical
 pub mod Agreeing
 pub mod Laws

@@ -17,7 +17,7 @@ use Rattle.oc_typed.specs.declared.typed.TStmtNode.{TStmtNode, Declare, Express,
 use Rattle.oc_typed.specs.declared.typed.TypedFunction.{TypedFunction}
 use Rattle.oc_typed.specs.Visible.{after_node, after_header}
 use Rattle.oc_typing.specs.Rules.{all, is_type, is_nothing, is_held}
-use Rattle.oc_typing.specs.Typed.{Context, context, has_type, is_of_node, is_slot, is_starred, expr, alone, valued, condition, initial, declares, header, maybe, back, is_block, stmt, part, rows, other, stmts}
+use Rattle.oc_typing.specs.Typed.{Context, context, has_type, is_of_node, is_slot, is_starred, expr, alone, valued, condition, initial, declares, header, maybe, back, stmt, part, rows, other, stmts}
 use Rattle.typed_runs.specs.Shapes.{Heading}
 use Rattle.typed_runs.specs.Statements.{WholeOk, TestOk, InitOk, DeclaredOk, DeclaredsOk, HeaderOk, MaybeTestOk, MaybeOk, BackOk, NameOk, NodeOk, PartOk, RowOk, OtherOk, ListOk}
 use Rattle.sound_runs.specs.Laws.{headings}
@@ -111,7 +111,7 @@ module _ (structs : List StructType) (fs : List TypedFunction) (f : TypedFunctio
     stmt_right (Block' _ ss) loop vis h = rows_right ss loop vis h
     stmt_right (If' c _ s n) loop vis h = all3 (test_right vis c) (part_right s loop vis) (other_right n loop vis) h
     stmt_right (OblivIf' c _ s n) loop vis h = all4 (same_is c.ty (Int KBool true)) (whole_right vis c) (part_right s loop vis) (other_right n loop vis) h
-    stmt_right (Always' n _ s) loop vis h = let z = all3 (name_right n) (kept (is_block s)) (part_right s loop (n ∷ vis)) h in (z.0, z.2)
+    stmt_right (Always' n _ s) loop vis h = all2 (name_right n) (part_right s loop (n ∷ vis)) h
     stmt_right (While' c _ s) loop vis h = all2 (test_right vis c) (part_right s true vis) h
     stmt_right (For' i c a _ s) loop vis h =
         let z = all4 (header_right i vis) (maybe_test_right c (after_header vis i)) (maybe_right a (after_header vis i)) (part_right s true (after_header vis i)) h in

@@ -185,8 +185,8 @@ module _ (g : Lookup) where
 
   through_declare : (K : Scope → Moves → Type 0) → Carried g K → (d : Declared) (s : Scope) (z : typed_declared.TDeclared × Scope) (rest : Moves) → declare g d s ≡ Ok z → K z.1 rest → K s (More (Name d) (first_moves d d.init rest))
   through_declare K c d s z rest h k =
-      let t = parted (field_type g d.field) (λ ty. next (needs d.field.spot T2 (not (is_taken s.seen s.level d.field.name))) (λ _. bind (initial g ty d.init) (λ v. ending d s v) (after d ty s))) z h in
-      let n = parted (needs d.field.spot T2 (not (is_taken s.seen s.level d.field.name))) (λ _. bind (initial g t.0 d.init) (λ v. ending d s v) (after d t.0 s)) z t.2 in
+      let t = parted (field_type g d.field) (λ ty. next (needs d.field.spot T2 (not (is_taken s d.field.name))) (λ _. bind (initial g ty d.init) (λ v. ending d s v) (after d ty s))) z h in
+      let n = parted (needs d.field.spot T2 (not (is_taken s d.field.name))) (λ _. bind (initial g t.0 d.init) (λ v. ending d s v) (after d t.0 s)) z t.2 in
       let i = walk_then (initial g t.0 d.init) (λ v. ending d s v) (after d t.0 s) z n.2 in
       c.more s (after d t.0 s) (Name d) _ (t.0, t.1, not_taken _ _ _ n.1, refl) (through_first K c d t.0 t.1 d.init (after d t.0 s) i.0 rest i.1 (subst (λ t. K t rest) (sym (scope_of _ _ _ _ i.2)) k))
 
@@ -215,8 +215,8 @@ module _ (g : Lookup) where
 
   faults_declare : (d : Declared) (s : Scope) (x : Refusal) (rest : Moves) → declare g d s ≡ Err x → FirstFault g s (More (Name d) (first_moves d d.init rest)) x
   faults_declare d s x rest h =
-      broken (field_type g d.field) (λ ty. next (needs d.field.spot T2 (not (is_taken s.seen s.level d.field.name))) (λ _. bind (initial g ty d.init) (λ v. ending g d s v) (after g d ty s))) x h (λ i. inl (inl i)) (λ ty i j.
-      broken (needs d.field.spot T2 (not (is_taken s.seen s.level d.field.name))) (λ _. bind (initial g ty d.init) (λ v. ending g d s v) (after g d ty s)) x j (λ i2. let b = is_it d.field.spot _ x i2 in inl (inr (ty, i, b.0, b.1))) (λ u i2 j2.
+      broken (field_type g d.field) (λ ty. next (needs d.field.spot T2 (not (is_taken s d.field.name))) (λ _. bind (initial g ty d.init) (λ v. ending g d s v) (after g d ty s))) x h (λ i. inl (inl i)) (λ ty i j.
+      broken (needs d.field.spot T2 (not (is_taken s d.field.name))) (λ _. bind (initial g ty d.init) (λ v. ending g d s v) (after g d ty s)) x j (λ i2. let b = is_it d.field.spot _ x i2 in inl (inr (ty, i, b.0, b.1))) (λ u i2 j2.
       inr (after g d ty s, (ty, i, not_taken _ _ _ i2, refl), walk_bad (initial g ty d.init) (λ v. ending g d s v) (after g d ty s) x j2 (λ i3. faults_first d ty i d.init (after g d ty s) x rest i3) (λ r i3 j3. never _ x j3))))
 
   pub faults_declares : (ds : List Declared) (s : Scope) (x : Refusal) (rest : Moves) → declare_all g ds s ≡ Err x → FirstFault g s (declared_moves ds rest) x
@@ -299,7 +299,11 @@ module _ (g : Lookup) where
         through_optional g K c v s a.0 _ a.1 (c.more s s (Gives p v) rest (gives_fine g s p v a.0 b.0 a.1 b.1) (subst (λ t. K t rest) (sym (scope_of _ _ _ _ b.2)) k))
 
     pub through1 : (K : Scope → Moves → Type 0) → Carried g K → (loop : Bool) (y : Row_of-Stmt 1) (s : Scope) (z : typed.TStmt × Scope) (rest : Moves) → part g loop y s ≡ Ok z → K z.1 rest → K s (moves1 loop y rest)
-    through1 K c loop (more_of-Stmt p n ss) s z rest h k = through K c loop p n s z rest h k
+    through1 K c loop (more_of-Stmt p n ss) s z rest h k =
+        let a = whole_scoped (stmt g loop p n) s z h in
+        c.inside s a.0.1 (moves loop p n Done) rest
+        (through (λ t us. AllFine g t us a.0.1) (fine_carried g a.0.1) loop p n (deeper s) a.0 Done a.1 refl)
+        (subst (λ t. K t rest) (sym a.2) k)
 
     pub through_all : {m : _} (K : Scope → Moves → Type 0) → Carried g K → (loop : Bool) (ss : Row_of-Stmt m) (s : Scope) (z : List typed.TStmt × Scope) (rest : Moves) → stmts g loop ss s ≡ Ok z → K z.1 rest → K s (moves_all loop ss rest)
     through_all K c loop end_of-Stmt s z rest h k = subst (λ t. K t rest) (sym (scope_of _ _ _ _ h)) k
@@ -376,7 +380,7 @@ module _ (g : Lookup) where
         through_optional g (λ r us. FirstFault g r us x) (fault_carried g x) v s y _ o (ask_bad (returned g p y) (λ z. made p (st.Return z)) s x k (λ a. inl (gives_bad g s p v y x o a)) (λ z a n. never _ x n)))
 
     pub faults_part : (loop : Bool) (y : Row_of-Stmt 1) (s : Scope) (x : Refusal) (rest : Moves) → part g loop y s ≡ Err x → FirstFault g s (moves1 loop y rest) x
-    faults_part loop (more_of-Stmt p n ss) s x rest h = faults_stmt loop p n s x rest h
+    faults_part loop (more_of-Stmt p n ss) s x rest h = inl (faults_stmt loop p n (deeper s) x Done (bad_inside (stmt g loop p n) s x h))
 
     pub faults_stmts : {m : _} (loop : Bool) (ss : Row_of-Stmt m) (s : Scope) (x : Refusal) (rest : Moves) → stmts g loop ss s ≡ Err x → FirstFault g s (moves_all loop ss rest) x
     faults_stmts loop end_of-Stmt s x rest h = never _ x h

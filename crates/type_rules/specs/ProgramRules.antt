@@ -32,7 +32,7 @@ with_params (p ∷ ps) (t ∷ ts) s = with_params ps ts (add p.name t.ty t.froze
 -- a function with its body, in whose scope its parameters are
 abbrev pub body : Lookup → Function → Heading → List Stmt → Judged TypedFunction
 body g f h ss =
-    next (statements g ss (with_params f.params h.params (record { seen = []; slots = []; level = 0 }))) (λ r.
+    next (statements g ss (with_params f.params h.params (record { seen = []; slots = []; outer = 0 }))) (λ r.
     Ok (record { name = f.name; result = h.result; params = length h.params; slots = r.1.slots; obliv = f.obliv; body = r.0 }))
 
 -- a function with its heading

@@ -1,5 +1,5 @@
 -- The rules of typing for statements, as functions that carry what is visible along.
-use Rattle.std.specs.Prelude.{ℕ, ◌+◌, nat_eq, List, [], ◌∷◌, ◌++◌, length, Bool, true, false, not, ◌&&◌, ◌||◌, Option, Some, None, Ok}
+use Rattle.std.specs.Prelude.{ℕ, List, [], ◌∷◌, ◌++◌, length, drop, Bool, true, false, not, ◌||◌, Option, Some, None, Ok}
 use Rattle.oc_values.specs.declared.integers.IntKind.TheVariants.{Bool as KBool}
 use Rattle.oc_source.specs.declared.spot.Spot.{Spot}
 use Rattle.oc_cells.specs.declared.types.CType.{CType, Int}
@@ -23,11 +23,11 @@ use Rattle.type_rules.specs.Lookup.{Lookup, convert, converted, same_name}
 use Rattle.type_rules.specs.Written.{field_type, is_frozen_place}
 use Rattle.type_rules.specs.Rules.{typed_value, typed_alone}
 
--- what is visible, the variables of the function so far, and how many scopes are open
+-- what is visible, the variables of the function so far, and how many variables are visible from around the innermost scope
 pub record Scope : Type 0 where
   pub seen : List Seen
   pub slots : List SlotType
-  pub level : ℕ
+  pub outer : ℕ
 
 -- a judgement that may declare
 abbrev pub Walk : Type 0 → Type 0
@@ -51,20 +51,24 @@ at g s = record g { seen = s.seen }
 
 -- a part whose names end with it, and whose variables stay
 abbrev pub scoped : {A : Type 0} → Walk A → Walk A
-scoped m s = next (m (record s { level = s.level + 1 })) (λ r. Ok (r.0, record { seen = s.seen; slots = r.1.slots; level = s.level }))
+scoped m s = next (m (record s { outer = length s.seen })) (λ r. Ok (r.0, record { seen = s.seen; slots = r.1.slots; outer = s.outer }))
 
--- whether a name is declared in the scope
-abbrev pub is_taken : List Seen → ℕ → List ℕ → Bool
-is_taken [] level x = false
-is_taken (y ∷ ys) level x = (nat_eq y.level level && same_name y.name x) || is_taken ys level x
+-- whether one of the variables has this name
+abbrev pub has_seen : List Seen → List ℕ → Bool
+has_seen [] x = false
+has_seen (y ∷ ys) x = same_name y.name x || has_seen ys x
+
+-- whether a name is declared in the innermost scope
+abbrev pub is_taken : Scope → List ℕ → Bool
+is_taken s x = has_seen (drop s.outer s.seen) x
 
 -- a further variable, which has the next slot
 abbrev pub add : List ℕ → CType → Bool → Scope → Scope
 add x ty frozen s =
     record {
-      seen = s.seen ++ record { name = x; level = s.level; slot = length s.slots; ty = ty } ∷ [];
+      seen = s.seen ++ record { name = x; slot = length s.slots; ty = ty } ∷ [];
       slots = s.slots ++ record { ty = ty; frozen = frozen } ∷ [];
-      level = s.level;
+      outer = s.outer;
     }
 
 -- an expression whose value is used
@@ -89,7 +93,7 @@ initial g ty (Some e) = bind (value_in g e) (λ v. bind (ask (convert ty v)) (λ
 abbrev pub declare : Lookup → Declared → Walk typed_declared.TDeclared
 declare g d s =
     next (field_type g d.field) (λ ty.
-    next (needs d.field.spot T2 (not (is_taken s.seen s.level d.field.name))) (λ _.
+    next (needs d.field.spot T2 (not (is_taken s d.field.name))) (λ _.
     bind (initial g ty d.init) (λ v. pure (record { spot = d.field.spot; slot = length s.slots; init = v }))
     (add d.field.name ty (is_frozen_place d.field.base d.field.stars) s)))
 
@@ -145,9 +149,9 @@ abbrev mutual
   stmt g loop p Continue = bind (ask (needs p T12 loop)) (λ _. made p s.Continue)
   stmt g loop p Empty = made p s.Empty
 
-  -- a part of a statement
+  -- a part of a statement, whose names end with it
   pub part : Lookup → Bool → Row_of-Stmt 1 → Walk typed.TStmt
-  part g loop (more_of-Stmt p n rest) = stmt g loop p n
+  part g loop (more_of-Stmt p n rest) = scoped (stmt g loop p n)
 
   -- the statements of a block, in order
   pub stmts : {m : _} → Lookup → Bool → Row_of-Stmt m → Walk (List typed.TStmt)

@@ -1,9 +1,10 @@
 -- What is left of the tests of types without the marks `obliv`.
 use Rattle.std.proofs.Common.{◌≡◌, refl, ap, ◌∙◌, Bool, true, false}
 use Rattle.std.specs.Prelude.{◌&&◌, ◌||◌, not}
+use Rattle.oc_values.specs.declared.integers.BinaryOp.{BinaryOp}
 use Rattle.oc_cells.specs.declared.types.CType.{CType, Int, Pointer', Array', Struct, Nothing, more_of-CType}
 use Rattle.oc_cells.specs.Types.{same, is_integer, is_hidden, is_pointer, is_struct, target}
-use Rattle.type_rules.specs.Judging.{is_nothing, is_null, leads, is_public, bare, converts, both_integers, steps, alike_pointers}
+use Rattle.type_rules.specs.Judging.{is_nothing, is_null, leads, is_public, bare, converts, both_integers, steps, alike_pointers, is_comparison}
 
 bare_integer : (t : CType) → is_integer (bare t) ≡ is_integer t
 bare_integer (Int k o) = refl
@@ -100,5 +101,5 @@ pub bare_alike : (a b : CType) → alike_pointers (bare a) (bare b) ≡ (is_poin
 bare_alike a b = both (both (bare_address a) (bare_address b)) (either (either (bare_null a) (bare_null b)) refl)
 
 -- what a compound assignment of integers asks for is there without the marks
-pub bare_fits : (a b : CType) → (both_integers (bare a) (bare b) && (not (is_hidden (bare b)) || is_hidden (bare a))) ≡ both_integers a b
-bare_fits a b = both (bare_both a b) (ap (λ h. not h || is_hidden (bare a)) (bare_hidden b)) ∙ and_true (both_integers a b)
+pub bare_fits : (op : BinaryOp) (a b : CType) → (both_integers (bare a) (bare b) && not (is_comparison op) && (not (is_hidden (bare b)) || is_hidden (bare a))) ≡ (both_integers a b && not (is_comparison op))
+bare_fits op a b = both (both (bare_both a b) refl) (ap (λ h. not h || is_hidden (bare a)) (bare_hidden b)) ∙ and_true (both_integers a b && not (is_comparison op))

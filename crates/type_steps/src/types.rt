@@ -2,9 +2,9 @@
 
 ghost use Rattle.std.specs.Prelude.{◌≡◌, IfOk, false, ◌||◌};
 ghost use Rattle.oc_cells.specs.Types.{same, is_integer, is_hidden, is_pointer, is_struct, target, kind_of};
-ghost use Rattle.type_rules.specs.Judging.{is_nothing, is_null, is_array, leads, bare, converts, is_public, both_integers, steps, alike_pointers, takes, takes_update, element, is_add, is_minus};
+ghost use Rattle.type_rules.specs.Judging.{is_nothing, is_null, is_array, leads, bare, converts, is_public, both_integers, steps, alike_pointers, takes, takes_update, element, is_add, is_minus, is_comparison};
 
-use crate::kinds::{is_add, is_equality, is_minus};
+use crate::kinds::{is_add, is_comparison, is_equality, is_minus};
 use oc_cells::{CType, same_type};
 use oc_values::{BinaryOp, IntKind, NoMemory};
 
@@ -260,7 +260,9 @@ pub fn takes_bare(op: BinaryOp, a: &CType, b: &CType) -> bool
 pub fn takes_update(op: BinaryOp, place: &CType, value: &CType) -> bool
     ensures { result ≡ takes_update op place.now value.now }
 {
-    (both_integers(place, value) && (!is_hidden(value) || is_hidden(place)))
+    (both_integers(place, value)
+        && !is_comparison(op)
+        && (!is_hidden(value) || is_hidden(place)))
         || (is_step(op) && steps(place, value))
 }
 
@@ -269,5 +271,6 @@ pub fn takes_update(op: BinaryOp, place: &CType, value: &CType) -> bool
 pub fn takes_update_bare(op: BinaryOp, place: &CType, value: &CType) -> bool
     ensures { result ≡ takes_update op (bare place.now) (bare value.now) }
 {
-    both_integers(place, value) || (is_step(op) && steps_bare(place, value))
+    (both_integers(place, value) && !is_comparison(op))
+        || (is_step(op) && steps_bare(place, value))
 }

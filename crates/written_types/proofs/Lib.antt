@@ -4,3 +4,5 @@ pub mod Forms
 pub mod Room
 pub mod Firsts
 pub mod Pushing
+pub mod EachItem
+pub mod Naming

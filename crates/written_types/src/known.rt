@@ -6,6 +6,7 @@ use crate::shapes::Shapes;
 use oc_cells::CType;
 
 /// What is known in one place of a program.
+#[derive(Drop)]
 pub struct Known<'s, 'p> {
     pub names: &'s Names<'p>,
     pub shapes: &'s Shapes<'p>,

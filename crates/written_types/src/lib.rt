@@ -3,6 +3,7 @@
 
 pub mod bodies;
 pub mod fields;
+pub mod headings;
 pub mod known;
 pub mod names;
 pub mod numbers;
@@ -13,6 +14,7 @@ pub mod written;
 
 pub use bodies::Bodies;
 pub use fields::{arrow, field};
+pub use headings::{heading, is_frozen_place, need_new, params};
 pub use known::Known;
 pub use names::Names;
 pub use numbers::{add_name, number_of};

@@ -30,7 +30,7 @@ fn struct_number(names: &Names<'_>, name: &[u8]) -> Option<u64>
 }
 
 /// A struct that is used by value is defined above.
-fn need_defined(known: &Known<'_, '_>, stars: u32, spot: Spot, number: u64) -> Result<(), TypeFault>
+fn need_defined(known: &Known<'_, '_>, stars: u64, spot: Spot, number: u64) -> Result<(), TypeFault>
     ensures { Answers (needs spot TypeRule.T1 (not (nat_eq stars 0) || nat_lt number known.now.above)) result }
 {
     if stars != 0 || number < known.above {
@@ -44,7 +44,7 @@ fn need_defined(known: &Known<'_, '_>, stars: u32, spot: Spot, number: u64) -> R
 }
 
 /// The struct of a number, which by value is defined above.
-fn struct_at(known: &Known<'_, '_>, stars: u32, spot: Spot, number: u64) -> Result<CType, TypeFault>
+fn struct_at(known: &Known<'_, '_>, stars: u64, spot: Spot, number: u64) -> Result<CType, TypeFault>
     ensures typed { Answers (struct_named (lookup known.now) (nat_eq stars 0) spot (Some number)) result }
     ensures base { IfOk result IsBase }
 {
@@ -55,7 +55,7 @@ fn struct_at(known: &Known<'_, '_>, stars: u32, spot: Spot, number: u64) -> Resu
 /// The struct of a number, if it has one.
 fn struct_named(
     known: &Known<'_, '_>,
-    stars: u32,
+    stars: u64,
     spot: Spot,
     number: Option<u64>,
 ) -> Result<CType, TypeFault>
@@ -72,7 +72,7 @@ fn struct_named(
 }
 
 /// What a written type with so many stars begins with.
-pub fn base_type(known: &Known<'_, '_>, stars: u32, base: &BaseName) -> Result<CType, TypeFault>
+pub fn base_type(known: &Known<'_, '_>, stars: u64, base: &BaseName) -> Result<CType, TypeFault>
     ensures typed { Answers (base_type (lookup known.now) (nat_eq stars 0) base.now) result }
     ensures base { IfOk result IsBase }
 {
@@ -119,11 +119,11 @@ fn base_mark(names: &Names<'_>, frozen: bool, base: &CType) -> bool
 }
 
 /// So many pointers to what a written type begins with, in normal form.
-fn starred(
+pub fn starred(
     alloc: Global,
     names: &Names<'_>,
     frozen: bool,
-    stars: u32,
+    stars: u64,
     base: CType,
 ) -> Result<CType, NoMemory>
     requires { IsBase base }
@@ -213,8 +213,14 @@ pub fn type_name(
 ) -> Result<CType, TypeFault>
     ensures { Answers (type_name (lookup known.now) written.now) result }
 {
-    let base = base_type(known, written.stars, &written.base)?;
-    Ok(starred(alloc, known.names, written.base.frozen, written.stars, base)?)
+    let base = base_type(known, written.stars as u64, &written.base)?;
+    Ok(starred(
+        alloc,
+        known.names,
+        written.base.frozen,
+        written.stars as u64,
+        base,
+    )?)
 }
 
 /// A declarator's type, where its arrays have room.
@@ -228,7 +234,13 @@ fn declared(
     requires lengths { IsTrue (are_lengths field.now.dims) }
     ensures { IfOk result (λ ty. ty ≡ normal known.now.names.now.public false (arrays field.now.dims (starred field.now.base.frozen field.now.stars base))) }
 {
-    let pointer = starred(alloc, known.names, field.base.frozen, field.stars, base)?;
+    let pointer = starred(
+        alloc,
+        known.names,
+        field.base.frozen,
+        field.stars as u64,
+        base,
+    )?;
     arrays(alloc, field.dims.as_slice(), pointer)
 }
 
@@ -240,7 +252,7 @@ pub fn field_type(
 ) -> Result<CType, TypeFault>
     ensures { Answers (field_type (lookup known.now) field.now) result }
 {
-    let base = base_type(known, field.stars, &field.base)?;
+    let base = base_type(known, field.stars as u64, &field.base)?;
     need_room(known, field, &base)?;
     Ok(declared(alloc, known, field, base)?)
 }
