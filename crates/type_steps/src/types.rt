@@ -260,9 +260,7 @@ pub fn takes_bare(op: BinaryOp, a: &CType, b: &CType) -> bool
 pub fn takes_update(op: BinaryOp, place: &CType, value: &CType) -> bool
     ensures { result ≡ takes_update op place.now value.now }
 {
-    (both_integers(place, value)
-        && !is_comparison(op)
-        && (!is_hidden(value) || is_hidden(place)))
+    (both_integers(place, value) && !is_comparison(op) && (!is_hidden(value) || is_hidden(place)))
         || (is_step(op) && steps(place, value))
 }
 
@@ -271,6 +269,5 @@ pub fn takes_update(op: BinaryOp, place: &CType, value: &CType) -> bool
 pub fn takes_update_bare(op: BinaryOp, place: &CType, value: &CType) -> bool
     ensures { result ≡ takes_update op (bare place.now) (bare value.now) }
 {
-    (both_integers(place, value) && !is_comparison(op))
-        || (is_step(op) && steps_bare(place, value))
+    (both_integers(place, value) && !is_comparison(op)) || (is_step(op) && steps_bare(place, value))
 }
