@@ -1,0 +1,4 @@
+pub mod Order
+pub mod InTurn
+pub mod Beside
+pub mod Judging
