@@ -1,1 +1,4 @@
-pub mod Spelled
+mod Spelled
+mod Reading
+mod Giving
+mod Asking

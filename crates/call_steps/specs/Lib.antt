@@ -1,1 +1,4 @@
 pub mod OwnCalls
+pub mod Formats
+pub mod Given
+pub mod Printed

@@ -1,0 +1,12 @@
+use Rattle.std.proofs.Common.{Ok, sym, ap}
+use Rattle.std.proofs.lemmas.Result.{err_from_is_err_and}
+use Rattle.type_steps.proofs.Steps.{go, stop, fine}
+use Rattle.call_steps.proofs.builtins.private_word.Goals as goal
+
+pub returns-in_err-need_one : goal.returns-in_err-need_one
+returns-in_err-need_one c =
+    let q = err_from_is_err_and c.from_residual.result c.from_residual.ensures.1 in
+    stop _ _ c.in_err-need_one.ensures q.1 q.2
+
+pub returns : goal.returns
+returns c = go _ _ c.in_ok-need_one.ensures (fine (ap (λ v. Ok v) (sym c.in_ok-private_value.ensures)))

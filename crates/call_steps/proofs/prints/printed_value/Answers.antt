@@ -1,0 +1,15 @@
+use Rattle.std.proofs.Common.{Ok, sym, ap, ◌∙◌}
+use Rattle.std.proofs.lemmas.Result.{err_from_is_err_and}
+use Rattle.type_steps.proofs.Steps.{go, fine}
+use Rattle.std.specs.Prelude.{◌∷◌, []}
+use Rattle.call_steps.specs.Printed.{printed_of}
+use Rattle.call_steps.proofs.Giving.{stop_seen}
+use Rattle.call_steps.proofs.prints.printed_value.Goals as goal
+
+pub returns-in_err-value : goal.returns-in_err-value
+returns-in_err-value c =
+    let q = err_from_is_err_and c.from_residual.result c.from_residual.ensures.1 in
+    stop_seen printed_of _ _ c.in_err-value.ensures q.1 q.2
+
+pub returns : goal.returns
+returns c = go _ _ c.in_ok-value.ensures (fine (ap (λ v. Ok v) (sym (c.in_ok-printed_one.ensures ∙ ap (λ f. record { args = c.in_ok-value.value ∷ []; fit = f }) c.has_width-fit.ensures))))
