@@ -1,0 +1,4 @@
+pub mod Nodes
+pub mod Functions
+pub mod Rows
+pub mod Loops

@@ -1,0 +1,5 @@
+pub mod Sites
+pub mod Weight
+pub mod CalledNames
+pub mod Arguments
+pub mod Ways
