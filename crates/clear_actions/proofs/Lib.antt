@@ -1,0 +1,5 @@
+pub mod Making
+pub mod Words
+pub mod CellByCell
+pub mod Calls
+pub mod Views
