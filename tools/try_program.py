@@ -35,6 +35,18 @@ HALVES = {
 }
 
 
+def checked_examples():
+    for name, status, out, err in [
+        ("sum", 0, b"ok\n", b""),
+        ("most", 0, b"ok\n", b""),
+        ("leak", 1, b"", b"refused F1 6:5\n"),
+    ]:
+        yield ["check", str(EXAMPLES / f"{name}.oc")], status, out, err
+    yield ["check", str(EXAMPLES / "absent.oc")], 5, b"", f"file {EXAMPLES / 'absent.oc'}\n".encode()
+    yield ["check"], 2, b"", b"usage 1\n"
+    yield ["check", SOURCE, "--input1"], 2, b"", b"usage 2\n"
+
+
 def refused_words():
     for at in range(len(COMMAND) + 1):
         yield [*COMMAND[:at], b"\xff"], 2, b"", f"usage {at}\n".encode()
@@ -138,7 +150,7 @@ def main():
         print("try_program: the program isn't built")
         return 0
     with tempfile.TemporaryDirectory() as folder:
-        rows = [(COMMAND, 0, b"12\n", b""), *refused_words(), *unreadable_files(folder)]
+        rows = [(COMMAND, 0, b"12\n", b""), *checked_examples(), *refused_words(), *unreadable_files(folder)]
         dealt = [*deals(folder)]
         found = [*faults(program, rows), *deal_faults(program, dealt), *stream_faults(program)]
     for fault in found:

@@ -1,5 +1,5 @@
 -- When a source is accepted, with which typed tree, and else which rule it breaks first, and where.
-use Rattle.std.specs.Prelude.{ℕ, ◌≡◌, List, Some, Ok, Err}
+use Rattle.std.specs.Prelude.{ℕ, ◌≡◌, List, Some}
 use Rattle.oc_source.specs.declared.spot.Spot.{Spot}
 use Rattle.oc_source.specs.declared.parsed.Program.{Program}
 use Rattle.oc_lexer.specs.declared.token.Lexed.{Lexed}
@@ -10,7 +10,8 @@ use Rattle.oc_parser.specs.Load.{IsLight}
 use Rattle.oc_parser.specs.Refusals.{HasNoTree}
 use Rattle.oc_typing.specs.declared.program.Typed.{Typed}
 use Rattle.oc_typing.specs.Tree.{TypedTree, tree_of}
-use Rattle.type_rules.specs.ProgramRules.{typed_program}
+use Rattle.judged_programs.specs.ProgramTyping.{ProgramTyping}
+use Rattle.judged_programs.specs.ProgramFault.{ProgramFault}
 use Rattle.scope_rules.specs.InScope.{InScope}
 use Rattle.scope_rules.specs.FirstFault.{first_fault}
 use Rattle.accepted_sources.specs.declared.rules.SourceRule.{SourceRule}
@@ -33,7 +34,7 @@ pub record IsParsed (source : List ℕ) (program : Program) : Type 0 where
 pub record IsTyped (source : List ℕ) (t : TypedTree) : Type 0 where
   pub program : Program
   pub parsed : IsParsed source program
-  pub typed : typed_program program ≡ Ok t
+  pub typed : ProgramTyping program t
 
 -- a source is accepted with this typed tree: it has tokens, a tree and types, and keeps the rules of scopes
 pub record Accepted (source : List ℕ) (t : Typed) : Type 0 where
@@ -46,5 +47,5 @@ abbrev pub IsRefusedBy : List ℕ → SourceRule → Spot → Type 0
 IsRefusedBy source (Lex rule) p = HasNoTokens source rule p
 IsRefusedBy source (Parse rule) p = (lexed : Lexed) × IsLexed source lexed × HasNoTree lexed rule p
 IsRefusedBy source (Types rule) p =
-    (program : Program) × IsParsed source program × (typed_program program ≡ Err (record { rule = rule; spot = p }))
+    (program : Program) × IsParsed source program × ProgramFault program (record { rule = rule; spot = p })
 IsRefusedBy source (Scopes rule) p = (t : TypedTree) × IsTyped source t × (first_fault t ≡ Some (record { rule = rule; spot = p }))

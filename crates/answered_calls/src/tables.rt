@@ -41,8 +41,10 @@ pub const COMMAND: [&[u8]; 6] = [
 ];
 
 /// Words of no command, some of which aren't text.
-pub const WORDS: [(&[&[u8]], &[u8]); 12] = [
+pub const WORDS: [(&[&[u8]], &[u8]); 14] = [
     (&[], b"usage 0\n"),
+    (&[b"check"], b"usage 1\n"),
+    (&[b"check", b"sum.oc", b"--input1"], b"usage 2\n"),
     (&[b"clear", b"sum.oc", b"--input2", b"two"], b"usage 4\n"),
     (
         &[
@@ -108,7 +110,8 @@ pub const WORDS: [(&[&[u8]], &[u8]); 12] = [
 ];
 
 /// A file that is absent.
-pub const ABSENT: [(&[&[u8]], &[u8]); 3] = [
+pub const ABSENT: [(&[&[u8]], &[u8]); 4] = [
+    (&[b"check", b"no.oc"], b"file no.oc\n"),
     (
         &[b"clear", b"no.oc", b"--input1", b"one", b"--input2", b"two"],
         b"file no.oc\n",
@@ -177,8 +180,8 @@ pub const INPUTS: [(&[u8], &[u8], u8, &[u8], &[u8]); 42] = [
 ];
 
 /// A source, and the status with what is printed and said.
-pub const SOURCES: [(&[u8], u8, &[u8], &[u8]); 14] = [
-    (b"", 1, b"", b"refused X1 1:1\n"),
+pub const SOURCES: [(&[u8], u8, &[u8], &[u8]); 22] = [
+    (b"", 1, b"", b"refused T10 1:1\n"),
     (b"/* x", 1, b"", b"refused L2 1:1\n"),
     (b"void oc_main(void) {", 1, b"", b"refused G1 1:21\n"),
     (b"void oc_main(void) {} x", 1, b"", b"refused G1 1:23\n"),
@@ -187,13 +190,56 @@ pub const SOURCES: [(&[u8], u8, &[u8], &[u8]); 14] = [
         b"void oc_main(void) { int a; int a; }",
         1,
         b"",
-        b"refused X1 1:1\n",
+        b"refused T2 1:33\n",
     ),
     (b"void oc_main(void) {} \xff", 1, b"", b"refused L1 1:23\n"),
     (b"void void\n089", 1, b"", b"refused L3 2:1\n"),
     (b"int 9223372036854775808", 1, b"", b"refused L4 1:5\n"),
     (b"\n\n  #include <math.h>\n", 1, b"", b"refused L5 3:3\n"),
-    (b"struct s { int a; };", 1, b"", b"refused X1 1:1\n"),
+    (b"struct s { int a; };", 1, b"", b"refused T10 1:21\n"),
+    (
+        b"void oc_main(void) { x = 1; }",
+        1,
+        b"",
+        b"refused T1 1:22\n",
+    ),
+    (
+        b"void oc_main(void) { obliv int a; int b = a; }",
+        1,
+        b"",
+        b"refused T4 1:43\n",
+    ),
+    (
+        b"void oc_main(void) { obliv bool c; obliv if (c) printf(\"%d\\n\", 1); }",
+        1,
+        b"",
+        b"refused F3 1:49\n",
+    ),
+    (
+        b"void oc_main(void) { obliv bool c; obliv if (c) return; }",
+        1,
+        b"",
+        b"refused F4 1:49\n",
+    ),
+    (
+        b"void oc_main(void) { frozen int a; a = 1; }",
+        1,
+        b"",
+        b"refused F5 1:36\n",
+    ),
+    (
+        b"void oc_main(void) { frozen int a; a = 1; x = 1; }",
+        1,
+        b"",
+        b"refused T1 1:43\n",
+    ),
+    (
+        b"void oc_main(void) { int a = 1; a++; }",
+        1,
+        b"",
+        b"refused X1 1:1\n",
+    ),
+    (b"void oc_main(void) { }", 0, b"", b""),
     (NINE, 1, b"", b"refused X1 1:1\n"),
     (SUM, 0, b"12\n", b""),
     (SPELLED, 0, b"12\n", b""),
@@ -253,7 +299,29 @@ pub const REPEATED: [Repeated; 4] = [
 ];
 
 /// Which calls of the vault and of both streams fail, where a stream takes one byte at once.
-pub const FAILING: [(&[&[u8]], [&[u64]; 3], u8, &[u8], &[u8]); 9] = [
+pub const FAILING: [(&[&[u8]], [&[u64]; 3], u8, &[u8], &[u8]); 13] = [
+    (&[b"check", b"sum.oc"], [&[], &[], &[]], 0, b"ok\n", b""),
+    (
+        &[b"check", b"sum.oc"],
+        [&[], &[0], &[]],
+        11,
+        b"",
+        b"output\n",
+    ),
+    (
+        &[b"check", b"sum.oc"],
+        [&[], &[2], &[]],
+        11,
+        b"ok",
+        b"output\n",
+    ),
+    (
+        &[b"check", b"sum.oc"],
+        [&[0], &[], &[]],
+        5,
+        b"",
+        b"file sum.oc\n",
+    ),
     (
         &[
             b"clear",

@@ -16,8 +16,6 @@ use Rattle.oblivcc_commands.specs.Asked.{ClearAsked}
 use Rattle.oblivcc_commands.specs.Views.{clear_of}
 use Rattle.oblivcc_commands.specs.declared.asked.ClearWords.{ClearWords}
 use Rattle.oblivcc_commands.specs.declared.asked.Asked.TheVariants.{Clear as ClearAsk}
-use Rattle.oblivc_main.specs.Sources.{IsAccepted}
-use Rattle.oblivc_main.specs.Inputs.{IsInput}
 use Rattle.oblivc_main.specs.Reading.{Told, Files}
 use Rattle.oblivc_main.specs.Forms.{Content, tree, word}
 use Rattle.oblivc_main.specs.Steps.{Takes, Fails, StopsAt, source_step, input_step}

@@ -1,12 +1,12 @@
 -- Making two files, one after the other.
-use Rattle.std.proofs.Common.{ℕ, ◌≡◌, ◌≤◌, List, [], ◌∷◌, Option, Some, Result, Ok, Err, refl, sym, ◌∙◌, subst, arith, inl, inr}
+use Rattle.std.proofs.Common.{ℕ, ◌≡◌, ◌≤◌, List, [], ◌∷◌, Option, Some, Ok, Err, refl, sym, ◌∙◌, subst, arith, inl}
 use Rattle.std.specs.Prelude.{IfSome, ◌≢◌}
 use Rattle.oc_outside.specs.Told.{appended-nil}
 use Rattle.oblivcc_commands.specs.declared.asked.DealWords.{DealWords}
 use Rattle.oblivcc_commands.specs.declared.asked.Asked.TheVariants.{Deal}
 use Rattle.oblivcc_commands.specs.Views.{deal_of}
-use Rattle.oblivc_main.specs.Reading.{Told, Holds, IsFile}
-use Rattle.oblivc_main.specs.Making.{Made, Writing, Makes, all_made, not_made, no_memory, Puts, IsUnwritable}
+use Rattle.oblivc_main.specs.Reading.{Told, Holds}
+use Rattle.oblivc_main.specs.Making.{Made, Writing, Makes, all_made, not_made, no_memory, Puts}
 use Rattle.oblivc_main.specs.Dealing.{dealt_files}
 use Rattle.oblivc_main.specs.Endings.{Outside, Ends, finished, unmade, without_memory, IsSilent, writing_of}
 use Rattle.oblivc_main.specs.declared.status.Status.{Status}

@@ -1,23 +1,22 @@
 -- The first bytes of a file, up to a limit, say of the whole file what its form needs.
-use Rattle.std.proofs.Common.{ℕ, ◌+◌, ◌^◌, ◌≡◌, ◌<◌, ◌≤◌, ℤ, pos, negsuc, List, [], ◌∷◌, ◌++◌, length, take, Option, Some, None, Bool, true, false, refl, sym, ap, ◌∙◌, subst, arith, length-append, min, inl, inr, Result, Ok, Err, SFits, w64}
+use Rattle.std.proofs.Common.{ℕ, ◌^◌, ◌≡◌, ◌≤◌, ℤ, pos, negsuc, List, [], ◌∷◌, ◌++◌, length, take, Option, Some, None, Bool, true, false, refl, sym, ◌∙◌, subst, arith, length-append, inl, inr, Result, Ok, Err, SFits, w64}
 use Rattle.std.specs.Prelude.{◌⊎◌, IfSome, IsSomeAnd, IsTrue}
-use Rattle.std.proofs.lemmas.List.{take_all, length-take}
-use Rattle.std.proofs.lemmas.Bool.{ltb-true, cases_lt}
+use Rattle.std.proofs.lemmas.List.{take_all}
+use Rattle.std.proofs.lemmas.Bool.{ltb-true}
 use Rattle.oc_values.specs.Integers.{is_in_bits}
 use Rattle.first_tree.specs.declared.program.Typed.{Typed}
-use Rattle.oc_source.specs.declared.spot.Spot.{Spot}
-use Rattle.oc_lexer.specs.declared.token.LexRule.TheVariants.{L6}
-use Rattle.oc_lexer.specs.Places.{spot_after}
-use Rattle.oblivc_main.specs.Sources.{IsTyped, IsAccepted, IsRefused, Breaks, ReadsTree}
+use Rattle.accepted_sources.specs.Answers.{IsAccepted, Accepts}
+use Rattle.accepted_sources.specs.declared.source.AcceptedSource.{AcceptedSource}
+use Rattle.accepted_sources.specs.declared.source.SourceFault.{SourceFault}
+use Rattle.accepted_sources.specs.declared.source.SourceFault.TheVariants as fault
+use Rattle.oblivc_main.specs.Sources.{ReadsTree, status_of}
 use Rattle.oblivc_main.specs.Inputs.{IsInput, sign_of, line_end}
-use Rattle.oblivc_main.specs.Reading.{Told, Holds, Files, Fetches, IsUnreadable}
-use Rattle.oblivc_main.specs.Forms.{tree, word, IsReadAs, IsMalformed, source_form, word_form}
-use Rattle.oblivc_main.specs.Steps.{ReadStep, Reads, Fails, unreadable, malformed, source_step, input_step}
-use Rattle.oblivc_main.specs.declared.refusal.Rule.{Rule}
-use Rattle.oblivc_main.specs.declared.refusal.Rule.TheVariants as rule
-use Rattle.oblivc_main.specs.declared.refusal.Refusal.{Refusal}
+use Rattle.oblivc_main.specs.Reading.{Files, Fetches}
+use Rattle.oblivc_main.specs.Forms.{accepted_content, tree, word}
+use Rattle.oblivc_main.specs.Steps.{ReadStep, Reads, Fails, unreadable, malformed, accepted_step, source_step, input_step}
 use Rattle.oblivc_main.specs.declared.status.Status.{Status}
 use Rattle.oblivc_main.specs.declared.status.Status.TheVariants.{Done, Refused, NoCommand, File, Input, NoMemory, Output}
+use Rattle.oblivc_main.proofs.SourceFronts.{below_limit, accepted_front, refused_front, first_front, not_first_front}
 
 -- what is told of a name says that these bytes are the front of the whole
 abbrev pub Fronts : Option (Option (List ℕ)) → ℕ → List ℕ → Type 0
@@ -40,62 +39,27 @@ unread f s limit (NoCommand k) h = absurd h
 unread f s limit Input h = absurd h
 unread f s limit Output h = absurd h
 
-below_limit : (whole bytes : List ℕ) (limit : ℕ) → bytes ≡ take limit whole → length bytes < limit → whole ≡ bytes
-below_limit whole bytes limit e lt =
-    let n : length bytes ≡ min limit (length whole) = ap length e ∙ length-take limit whole in
-    sym (e ∙ take_all limit whole (omega arith))
-
 -- ---- Sources
-
-typed_size : (source : List ℕ) (t : Typed) → IsTyped source t → length source ≤ 1048576
-typed_size source t h = h.parsed.tokens.spelled.size
-
--- a text is accepted where its front is
-accepted_front : (whole bytes : List ℕ) (t : Typed) → bytes ≡ take 1048577 whole → IsAccepted bytes t → IsAccepted whole t
-accepted_front whole bytes t e a = subst (λ s. IsAccepted s t) (sym (below_limit whole bytes 1048577 e (omega (arith, typed_size bytes t a.typed)))) a
-
--- a long text breaks one rule, at its start
-long_breaks : (source : List ℕ) (broken : Rule) (spot : Spot) → 1048576 < length source → Breaks source broken spot → (broken ≡ rule.Lex L6) × (spot ≡ spot_after [])
-long_breaks source (rule.Lex broken) spot long (inl b) = (ap rule.Lex b.1, b.2)
-long_breaks source (rule.Lex broken) spot long (inr short) = absurd (omega (arith, short.0, long))
-long_breaks source (rule.Parse broken) spot long b = let lexed = b.1 in absurd (omega (arith, lexed.spelled.size, long))
-long_breaks source rule.First spot long b = let parsed = b.0.1 in absurd (omega (arith, parsed.tokens.spelled.size, long))
-
--- a long text breaks the rule that its front breaks, which is long too
-breaks_long : (whole bytes : List ℕ) (broken : Rule) (spot : Spot) → 1048576 < length bytes → 1048576 < length whole → Breaks bytes broken spot → Breaks whole broken spot
-breaks_long whole bytes (rule.Lex broken) spot lb lw (inl long) = inl (lw, long.1, long.2)
-breaks_long whole bytes (rule.Lex broken) spot lb lw (inr short) = absurd (omega (arith, short.0, lb))
-breaks_long whole bytes (rule.Parse broken) spot lb lw b = let lexed = b.1 in absurd (omega (arith, lexed.spelled.size, lb))
-breaks_long whole bytes rule.First spot lb lw b = let parsed = b.0.1 in absurd (omega (arith, parsed.tokens.spelled.size, lb))
-
-refused_long : (whole bytes : List ℕ) (r : Refusal) → 1048576 < length bytes → 1048576 < length whole → IsRefused bytes r → IsRefused whole r
-refused_long whole bytes r lb lw h = record {
-  broken = breaks_long whole bytes r.rule r.spot lb lw h.broken;
-  only = λ broken spot b. let one = long_breaks whole broken spot lw b in let other = long_breaks bytes r.rule r.spot lb h.broken in (one.0 ∙ sym other.0, one.1 ∙ sym other.1);
-  none = λ t f. absurd (omega (arith, typed_size whole t f, lw));
-}
-
--- a text is refused as its front is
-refused_front : (whole bytes : List ℕ) (r : Refusal) → bytes ≡ take 1048577 whole → IsRefused bytes r → IsRefused whole r
-refused_front whole bytes r e h = at_length (cases_lt (length bytes) 1048577)
-  where
-    size : length bytes ≡ min 1048577 (length whole)
-    size = ap length e ∙ length-take 1048577 whole
-
-    at_length : (length bytes < 1048577) ⊎ (1048577 ≤ length bytes) → IsRefused whole r
-    at_length (inl short) = subst (λ s. IsRefused s r) (sym (below_limit whole bytes 1048577 e short)) h
-    at_length (inr long) = refused_long whole bytes r (omega (arith, long)) (omega (arith, size, long)) h
 
 -- what reading the bytes of a source answers, reading the file answers
 pub source_read : (f : Files) (name bytes : List ℕ) → Fetches f name 1048577 (Ok bytes) → (r : Result Typed Status) → ReadsTree bytes r → Reads tree f (source_step name) r
-source_read f name bytes h (Ok t) read = (h.0, h.1, (refl, accepted_front h.0 bytes t h.2 read))
-source_read f name bytes h (Err (Refused r)) read = inr (malformed h.0 h.1 (r, refl, refused_front h.0 bytes r h.2 read))
+source_read f name bytes h (Ok t) read = (h.0, h.1, (refl, first_front h.0 bytes t h.2 read))
+source_read f name bytes h (Err (Refused r)) read = inr (malformed h.0 h.1 (r, refl, not_first_front h.0 bytes r h.2 read))
 source_read f name bytes h (Err NoMemory) read = inl refl
 source_read f name bytes h (Err Done) read = absurd read
 source_read f name bytes h (Err (NoCommand k)) read = absurd read
 source_read f name bytes h (Err (File named)) read = absurd read
 source_read f name bytes h (Err Input) read = absurd read
 source_read f name bytes h (Err Output) read = absurd read
+
+-- what reading the bytes of a source that has to be accepted answers, reading the file answers
+module _ (f : Files) (name bytes : List ℕ) (h : Fetches f name 1048577 (Ok bytes)) where
+  pub accepted_read : (a : AcceptedSource) → IsAccepted bytes a.program a.typed → Reads accepted_content f (accepted_step name) (Ok a)
+  accepted_read a is = (h.0, h.1, (refl, (a.program, accepted_front h.0 bytes a.program a.typed h.2 is)))
+
+  pub fault_stops : (fault : SourceFault) → Accepts bytes (Err fault) → Reads accepted_content f (accepted_step name) (Err (status_of fault))
+  fault_stops (fault.Refused broken spot) is = inr (malformed h.0 h.1 (broken, spot, refl, refused_front h.0 bytes broken spot h.2 is))
+  fault_stops fault.NoMemory is = inl refl
 
 -- ---- Inputs
 

@@ -1,12 +1,10 @@
 -- What printing items one after another has written.
-use Rattle.std.proofs.Common.{ℕ, zero, suc, ◌+◌, ◌≡◌, ◌<◌, ◌≤◌, List, [], ◌∷◌, ◌++◌, length, take, drop, get_or, Option, Some, None, refl, sym, ap, ◌∙◌, subst, arith, append-nil, append_assoc, length-append}
+use Rattle.std.proofs.Common.{ℕ, zero, suc, ◌+◌, ◌≡◌, ◌<◌, ◌≤◌, List, [], ◌∷◌, ◌++◌, length, take, get_or, Option, refl, sym, ap, ◌∙◌, subst, arith, append-nil, append_assoc, length-append}
 use Rattle.std.proofs.Math.Seq.{take-suc, take-append-add}
 use Rattle.std.proofs.lemmas.List.{take-append-le}
 use Rattle.oc_outside.specs.Counts.{Rose}
 use Rattle.oc_outside.specs.Told.{appended, appended-appended}
-use Rattle.oc_outside.specs.Sinks.{OnDone, OnEndFailed, UnlessDone}
-use Rattle.oc_outside.specs.declared.sinks.PutEnd.{PutEnd}
-use Rattle.oc_outside.specs.declared.sinks.PutEnd.TheVariants.{Done, Failed, NoMemory}
+use Rattle.oc_outside.specs.declared.sinks.PutEnd.TheVariants.{Failed, NoMemory}
 use Rattle.first_tree.specs.declared.run.ShownItem.{ShownItem}
 use Rattle.first_tree.specs.Shown.{shown, shown_item}
 use Rattle.oblivc_main.specs.Endings.{Printed}

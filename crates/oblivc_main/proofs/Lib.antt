@@ -1,8 +1,10 @@
 pub mod InputForm
 pub mod Fronts
 pub mod Steps
+pub mod SourceFronts
 pub mod FileForms
 pub mod ClearRuns
+pub mod CheckRuns
 pub mod DealtFiles
 pub mod Completing
 pub mod Refusing

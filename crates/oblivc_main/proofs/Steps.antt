@@ -1,13 +1,12 @@
 -- Reading files one after another.
-use Rattle.std.proofs.Common.{ℕ, ◌≡◌, ◌≤◌, ℤ, List, [], ◌∷◌, ◌++◌, Option, Some, None, refl, sym, ap, subst, arith, inl, inr}
-use Rattle.std.specs.Prelude.{◌⊎◌, IfSome}
+use Rattle.std.proofs.Common.{ℕ, ◌≡◌, ◌≤◌, List, [], ◌∷◌, ◌++◌, Option, Some, None, refl, sym, ap, subst, arith, inl, inr}
+use Rattle.std.specs.Prelude.{IfSome}
 use Rattle.std.specs.List.{AllByRecursion}
 use Rattle.std.specs.Option.{unwrap_or}
 use Rattle.std.proofs.lemmas.Option.{none-some}
 use Rattle.oc_outside.specs.Counts.{Rose}
-use Rattle.oblivc_main.specs.Sources.{IsTyped}
-use Rattle.oblivc_main.specs.Reading.{Told, Holds, IsAbsent, Files, IsUnreadable}
-use Rattle.oblivc_main.specs.Forms.{Content, FileForm, source_form, word_form, HasForm, IsMalformed}
+use Rattle.oblivc_main.specs.Reading.{Told, Holds, IsAbsent, Files}
+use Rattle.oblivc_main.specs.Forms.{Content, FileForm, accepted_form, source_form, word_form, HasForm, IsMalformed}
 use Rattle.oblivc_main.specs.Steps.{ReadStep, Takes, Fails, unreadable, malformed, StopsAt, IsReady}
 use Rattle.oblivc_main.specs.declared.status.Status.{Status}
 
@@ -54,6 +53,7 @@ present told name whole e h = none-some whole (sym (subst (λ t. IfSome t (λ o.
 
 -- bytes that have a form don't miss it
 apart : (form : FileForm) (bytes : List ℕ) (status : Status) → HasForm form bytes → IsMalformed form bytes status → ⊥
+apart accepted_form bytes status has wrong = let refused = wrong.3 in refused.none has.0 has.1
 apart source_form bytes status has wrong = let refused = wrong.2 in refused.none has.0 has.1
 apart word_form bytes status has wrong = wrong.1 has.0 has.1
 

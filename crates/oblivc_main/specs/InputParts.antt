@@ -1,5 +1,5 @@
 -- The parts of an input line, as they are taken off.
-use Rattle.std.specs.Prelude.{ℕ, zero, suc, ◌-◌, ℤ, List, [], ◌∷◌, length, take, drop, Bool, true, false, ◌&&◌, not, nat_eq, Option, Some, None, slice_index, if◌then◌else◌}
+use Rattle.std.specs.Prelude.{ℕ, ◌-◌, ℤ, List, [], ◌∷◌, length, take, drop, Bool, true, false, ◌&&◌, not, nat_eq, Option, Some, None, slice_index, if◌then◌else◌}
 use Rattle.std.specs.List.{list_all}
 use Rattle.oc_values.specs.Integers.{is_in_bits}
 use Rattle.oblivc_main.specs.Inputs.{is_digit, decimal_value}

@@ -5,10 +5,12 @@ pub mod Reading
 pub mod Forms
 pub mod Steps
 pub mod Making
+pub mod Checking
 pub mod Clearing
 pub mod Dealing
 pub mod Commands
 pub mod Endings
+pub mod RuleNames
 pub mod Lines
 pub mod Saying
 pub mod Statuses

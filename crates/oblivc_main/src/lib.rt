@@ -3,9 +3,11 @@
 //! `oblivcc` is the top call: it reads the words of a command line, does what they ask for, and answers
 //! the status to exit with. `serve_process` reads those words from the process first.
 //!
-//! - `clear` runs a program in the clear and prints what it shows. It refuses a source without tokens (L1 to L6),
-//!   tokens without a tree (G1 and G2), and a tree that isn't of the first form (X1), in this order, and says the
-//!   rule and the place.
+//! - `check` says whether a source is accepted. It refuses a source without tokens (L1 to L6), tokens without a tree (G1 and
+//!   G2), a tree without types (T1 to T12), and a typed tree that breaks a rule of hidden scopes or frozen places (F1 to F5),
+//!   in this order, and says the rule and the place.
+//! - `clear` runs a program in the clear and prints what it shows. It refuses what `check` refuses, and then a tree that
+//!   isn't of the first form (X1).
 //! - `deal` makes both halves of dealt transfers from a key, and writes each to a file.
 //!
 //! `Answered` in `specs/Statuses.antt` says what a call answers: a status that has its cause, and its number and line.
@@ -17,10 +19,12 @@
 #![tactic(auto)]
 
 mod arguments;
+mod checking;
 mod clearing;
 mod dealing;
 mod inputs;
 mod making;
+mod names;
 mod printing;
 mod program;
 mod reading;

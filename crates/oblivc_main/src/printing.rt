@@ -1,4 +1,4 @@
-//! Printing what a run shows.
+//! Printing lines, and what a run shows.
 
 ghost use Rattle.std.specs.Prelude.{◌≡◌, IfOk, string_bytes};
 ghost use Rattle.first_tree.specs.Shown.{shown, shown_item, result_line as line_of_result};
@@ -13,6 +13,13 @@ fn result_line(alloc: Global, party: u8, value: i128) -> Result<String, AllocErr
     ensures { IfOk result (λ line. string_bytes line ≡ line_of_result party value) }
 {
     format!(in alloc; "result{party} {value}\n")
+}
+
+/// Prints a line.
+pub fn print_line<S: Sink>(out: &mut S, line: &str) -> PutEnd
+    ensures { Printed line.now result (S.faults out.old) (S.faults out.new) (S.written out.old) (S.written out.new) }
+{
+    write_all(out, line.as_bytes())
 }
 
 /// Prints one item.

@@ -4,6 +4,7 @@ ghost use Rattle.std.specs.Prelude.{◌≡◌, ◌≤◌, ◌-◌, ◌^◌, ◌<
 ghost use Rattle.command_grammar.specs.Grammar.{texts};
 ghost use Rattle.oblivc_main.specs.Statuses.{Answered, Serves};
 
+use crate::checking::check;
 use crate::clearing::clear;
 use crate::dealing::deal;
 use crate::saying::report;
@@ -29,6 +30,7 @@ fn serve<'w, V: Vault, S: Sink>(
     }) result }
 {
     match read_command(words) {
+        Ok(Asked::Check(asked)) => check(alloc, &asked, files, out),
         Ok(Asked::Clear(asked)) => clear(alloc, &asked, files, out),
         Ok(Asked::Deal(asked)) => deal(alloc, &asked, files),
         Err(k) => Status::NoCommand(k),
@@ -37,6 +39,7 @@ fn serve<'w, V: Vault, S: Sink>(
 
 /// Does what the words of a command line ask for, and answers the status to exit with.
 ///
+/// `check FILE` reads the source of that name, and prints `ok` and a newline to `out` where it is accepted.
 /// `clear FILE --input1 F --input2 F` reads the source of that name and one word of each party, runs the
 /// program in the clear and prints to `out` what it shows. `deal --key K --count N --out1 F --out2 F` writes the
 /// sender's half of N transfers that is dealt of the key K to the first file, and then the receiver's half to the
@@ -44,7 +47,8 @@ fn serve<'w, V: Vault, S: Sink>(
 ///
 /// - 0: all was printed or written to the files, and nothing was written to `err`;
 /// - 1: the source is refused; `err` says `refused RULE LINE:COLUMN`, with the first rule that it breaks and where:
-///   L1 to L6 of its tokens, G1 and G2 of its tree, or X1 at 1:1 where its tree isn't of the first form;
+///   L1 to L6 of its tokens, G1 and G2 of its tree, T1 to T12 of its types, F1 to F5 of its hidden scopes and frozen
+///   places, or, of `clear` alone, X1 at 1:1 where its tree isn't of the first form;
 /// - 2: the words aren't a command; `err` says `usage K`, with the least K such that no command begins
 ///   with the words 0 to K, or the number of words;
 /// - 5: a file is absent, or reading or writing it failed; `err` says `file NAME`;

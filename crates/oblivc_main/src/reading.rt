@@ -2,19 +2,18 @@
 
 ghost use Rattle.std.specs.Prelude.{◌≡◌, ◌≤◌};
 ghost use Rattle.oblivc_main.specs.declared.status.Status.TheVariants as statuses;
-ghost use Rattle.oblivc_main.specs.Sources.{ReadsTree};
-ghost use Rattle.oblivc_main.specs.Forms.{tree, word};
+ghost use Rattle.oblivc_main.specs.Sources.{ReadsTree, status_of};
+ghost use Rattle.oblivc_main.specs.Forms.{accepted_content, tree, word};
 ghost use Rattle.oblivc_main.specs.Reading.{Fetches};
-ghost use Rattle.oblivc_main.specs.Steps.{Reads, source_step, input_step};
+ghost use Rattle.oblivc_main.specs.Steps.{Reads, accepted_step, source_step, input_step};
 
 use crate::inputs::read_input;
 use crate::refusal::{Refusal, Rule};
 use crate::status::Status;
+use accepted_sources::{AcceptedSource, SourceFault, accept};
 use first_form::read_first;
 use first_tree::Typed;
-use oc_lexer::{LexFault, lex};
 use oc_outside::{FileAnswer, Vault};
-use oc_parser::{ParseFault, parse};
 use oc_source::Spot;
 use oc_values::Items;
 use std::alloc::Global;
@@ -55,29 +54,55 @@ fn refused(rule: Rule, spot: Spot) -> Status<'static>
     Status::Refused(Refusal { rule, spot })
 }
 
-/// The typed tree of the bytes of a source, or why there is none: its tokens are looked at first, then its tree, and
-/// then the form of the tree.
+/// The end of a command at a source that isn't accepted.
+fn not_accepted(fault: SourceFault) -> Status<'static>
+    ensures { result ≡ status_of fault }
+{
+    match fault {
+        SourceFault::Refused { rule, spot } => refused(Rule::Source(rule), spot),
+        SourceFault::NoMemory => Status::NoMemory,
+    }
+}
+
+/// The typed tree of the first form of the bytes of a source, or why there is none: whether it is accepted is looked at
+/// first, and then the form of the tree.
 fn read_tree(alloc: Global, source: &[u8]) -> Result<Typed, Status<'static>>
     ensures { ReadsTree source.now result }
 {
-    let lexed = match lex(alloc, source) {
-        Ok(lexed) => lexed,
-        Err(LexFault::Refused { rule, spot }) => return Err(refused(Rule::Lex(rule), spot)),
-        Err(LexFault::NoMemory) => return Err(Status::NoMemory),
+    let accepted = match accept(alloc, source) {
+        Ok(accepted) => accepted,
+        Err(fault) => return Err(not_accepted(fault)),
     };
-    let program = match parse(alloc, &lexed) {
-        Ok(program) => program,
-        Err(ParseFault::Refused { rule, spot }) => return Err(refused(Rule::Parse(rule), spot)),
-        Err(ParseFault::NoMemory) => return Err(Status::NoMemory),
-    };
-    match read_first(alloc, &program) {
+    match read_first(alloc, &accepted.program) {
         Ok(Some(typed)) => Ok(typed),
         Ok(None) => Err(refused(Rule::First, Spot { line: 1, column: 1 })),
         Err(_) => Err(Status::NoMemory),
     }
 }
 
-/// The typed tree of a source, or why there is none.
+/// A source that is accepted, or why it isn't.
+pub fn read_accepted<'n, V: Vault>(
+    alloc: Global,
+    files: &mut V,
+    name: &'n str,
+) -> Result<AcceptedSource, Status<'n>>
+    ensures end { Reads accepted_content (record {
+      told = V.contents files.old;
+      faults_before = V.faults files.old;
+      faults_after = V.faults files.new;
+      failed = V.failed files.new;
+    }) (accepted_step name.now) result }
+    ensures never_falls { V.faults files.old ≤ V.faults files.new }
+    ensures unchanged { V.contents files.new ≡ V.contents files.old }
+{
+    let bytes = read_bytes(alloc, files, name, SOURCE_LIMIT)?;
+    match accept(alloc, bytes.as_slice()) {
+        Ok(accepted) => Ok(accepted),
+        Err(fault) => Err(not_accepted(fault)),
+    }
+}
+
+/// The typed tree of the first form of a source, or why there is none.
 pub fn read_source<'n, V: Vault>(
     alloc: Global,
     files: &mut V,

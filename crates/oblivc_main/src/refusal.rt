@@ -1,17 +1,14 @@
 //! Why a source is refused.
 
-use oc_lexer::LexRule;
-use oc_parser::ParseRule;
+use accepted_sources::SourceRule;
 use oc_source::Spot;
 
 /// A rule that a source breaks.
 #[derive(Clone, Copy, Debug, PartialEq, Eq)]
 pub enum Rule {
-    /// L1 to L6: the source has no tokens.
-    Lex(LexRule),
-    /// G2: its tokens nest too deep; G1: they don't, and have no tree.
-    Parse(ParseRule),
-    /// X1: its tree isn't of the first form.
+    /// L1 to L6, G1, G2, T1 to T12, F1 to F5: the source isn't accepted.
+    Source(SourceRule),
+    /// X1: it is accepted, and its tree isn't of the first form.
     First,
 }
 

@@ -1,14 +1,13 @@
 //! The line on the error stream.
 
 ghost use Rattle.std.specs.Prelude.{◌≡◌, ℕ, List, IfOk, string_bytes};
-ghost use Rattle.oblivc_main.specs.Lines.{usage_line, rule_name, refused_line, file_line, memory_line};
+ghost use Rattle.oblivc_main.specs.Lines.{usage_line, refused_line, file_line, memory_line};
 ghost use Rattle.oblivc_main.specs.Saying.{Says, Said};
 
-use crate::refusal::{Refusal, Rule};
+use crate::names::rule_name;
+use crate::refusal::Refusal;
 use crate::status::{DONE, FILE, INPUT, NO_MEMORY, OUTPUT, REFUSED, Status, USAGE};
-use oc_lexer::LexRule;
 use oc_outside::{PutEnd, Sink, write_all};
-use oc_parser::ParseRule;
 use std::alloc::{AllocError, Global};
 
 /// The line for words that aren't a command.
@@ -16,23 +15,6 @@ fn line_for_usage(alloc: Global, k: usize) -> Result<String, AllocError>
     ensures { IfOk result (λ line. string_bytes line ≡ usage_line k) }
 {
     format!(in alloc; "usage {k}\n")
-}
-
-/// What the line calls a rule.
-fn rule_name(rule: Rule) -> &'static str
-    ensures { result.now ≡ rule_name rule }
-{
-    match rule {
-        Rule::Lex(LexRule::L1) => "L1",
-        Rule::Lex(LexRule::L2) => "L2",
-        Rule::Lex(LexRule::L3) => "L3",
-        Rule::Lex(LexRule::L4) => "L4",
-        Rule::Lex(LexRule::L5) => "L5",
-        Rule::Lex(LexRule::L6) => "L6",
-        Rule::Parse(ParseRule::G1) => "G1",
-        Rule::Parse(ParseRule::G2) => "G2",
-        Rule::First => "X1",
-    }
 }
 
 /// The line for a source that is refused.

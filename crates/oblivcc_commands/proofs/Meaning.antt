@@ -5,14 +5,17 @@ use Rattle.std.specs.Option.{unwrap_or}
 use Rattle.command_grammar.specs.Grammar.{Given, HasOneReading, IsCommand}
 use Rattle.command_grammar.specs.Values.{value_of}
 use Rattle.command_grammar.proofs.Fronts.{one_reading}
-use Rattle.oblivcc_commands.specs.Table.{clear_command, commands, deal_command}
-use Rattle.oblivcc_commands.specs.Asked.{ClearAsked, DealAsked, IsClear, IsDeal}
+use Rattle.oblivcc_commands.specs.Table.{check_command, clear_command, commands, deal_command}
+use Rattle.oblivcc_commands.specs.Asked.{CheckAsked, ClearAsked, DealAsked, IsCheck, IsClear, IsDeal}
+
+check_listed : Contains commands check_command
+check_listed = (0, lit< tt, refl)
 
 clear_listed : Contains commands clear_command
-clear_listed = (0, lit< tt, refl)
+clear_listed = (1, lit< tt, refl)
 
 deal_listed : Contains commands deal_command
-deal_listed = (1, lit< tt, refl)
+deal_listed = (2, lit< tt, refl)
 
 one : HasOneReading commands
 one = one_reading commands refl
@@ -20,6 +23,14 @@ one = one_reading commands refl
 -- options that are the same give one value to a name
 same_value : (gs hs : List Given) (name v w : List ℕ) → gs ≡ hs → value_of gs name ≡ Some v → value_of hs name ≡ Some w → v ≡ w
 same_value gs hs name v w same e f = ap (λ o. unwrap_or o v) (sym e ∙ ap (λ xs. value_of xs name) same ∙ f)
+
+pub check_once : (ws : List (List ℕ)) (d e : CheckAsked) → IsCheck ws d → IsCheck ws e → d ≡ e
+check_once ws d e p q =
+    let r = one ws check_command check_command check_listed check_listed (d.file ∷ []) (e.file ∷ []) p.given q.given p.command q.command in
+    ap (λ ws. asked (get_or ws 0 [])) r.1
+  where
+    asked : List ℕ → CheckAsked
+    asked file = record { file = file }
 
 pub clear_once : (ws : List (List ℕ)) (d e : ClearAsked) → IsClear ws d → IsClear ws e → d ≡ e
 clear_once ws d e p q =
@@ -47,8 +58,24 @@ deal_once ws d e p q =
     asked : List ℕ → ℕ → List ℕ → List ℕ → DealAsked
     asked key count first second = record { key = key; count = count; first = first; second = second }
 
-pub not_both : (ws : List (List ℕ)) (d : ClearAsked) (e : DealAsked) → IsClear ws d → IsDeal ws e → ⊥
-not_both ws d e p q =
+pub check_not_clear : (ws : List (List ℕ)) (d : CheckAsked) (e : ClearAsked) → IsCheck ws d → IsClear ws e → ⊥
+check_not_clear ws d e p q =
+    let r = one ws check_command clear_command check_listed clear_listed (d.file ∷ []) (e.file ∷ []) p.given q.given p.command q.command in
+    apart (ap (λ c. c.kind) r.0)
+  where
+    apart : check_command.kind ≡ clear_command.kind → ⊥
+    apart e = absurd cc
+
+pub check_not_deal : (ws : List (List ℕ)) (d : CheckAsked) (e : DealAsked) → IsCheck ws d → IsDeal ws e → ⊥
+check_not_deal ws d e p q =
+    let r = one ws check_command deal_command check_listed deal_listed (d.file ∷ []) [] p.given q.given p.command q.command in
+    apart (ap (λ c. c.kind) r.0)
+  where
+    apart : check_command.kind ≡ deal_command.kind → ⊥
+    apart e = absurd cc
+
+pub clear_not_deal : (ws : List (List ℕ)) (d : ClearAsked) (e : DealAsked) → IsClear ws d → IsDeal ws e → ⊥
+clear_not_deal ws d e p q =
     let r = one ws clear_command deal_command clear_listed deal_listed (d.file ∷ []) [] p.given q.given p.command q.command in
     apart (ap (λ c. c.kind) r.0)
   where
@@ -56,6 +83,9 @@ not_both ws d e p q =
     apart e = absurd cc
 
 -- what asks for something is a command
+pub check_is : (ws : List (List ℕ)) (d : CheckAsked) → IsCheck ws d → IsCommand commands ws
+check_is ws d p = (check_command, check_listed, d.file ∷ [], p.given, p.command)
+
 pub clear_is : (ws : List (List ℕ)) (d : ClearAsked) → IsClear ws d → IsCommand commands ws
 clear_is ws d p = (clear_command, clear_listed, d.file ∷ [], p.given, p.command)
 

@@ -8,7 +8,7 @@ use Rattle.command_grammar.specs.Scanning.{operands_in, options_in}
 use Rattle.oblivcc_commands.specs.Table.{commands, command_for}
 
 all_rows : AllByRecursion (λ c. c ≡ command_for c.kind) commands
-all_rows = (refl, (refl, tt))
+all_rows = (refl, (refl, (refl, tt)))
 
 at_row : (cs : List (Command CommandKind)) (k : ℕ) (c : Command CommandKind) → AllByRecursion (λ c. c ≡ command_for c.kind) cs → k < length cs → get_or cs k c ≡ c → c ≡ command_for c.kind
 at_row [] k c a lt e = absurd (omega arith)

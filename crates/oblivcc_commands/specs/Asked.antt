@@ -4,7 +4,16 @@ use Rattle.hex.specs.Hex.{decode_sized}
 use Rattle.command_grammar.specs.Forms.{decimal_value}
 use Rattle.command_grammar.specs.Grammar.{Given, IsCommandOf}
 use Rattle.command_grammar.specs.Values.{value_of}
-use Rattle.oblivcc_commands.specs.Table.{clear_command, deal_command}
+use Rattle.oblivcc_commands.specs.Table.{check_command, clear_command, deal_command}
+
+-- what `check` asks for: the source's name
+pub record CheckAsked : Type 0 where
+  pub file : List ℕ
+
+-- the words are `check` and ask for this
+pub record IsCheck (words : List (List ℕ)) (d : CheckAsked) : Type 0 where
+  pub given : List Given
+  pub command : IsCommandOf check_command words (d.file ∷ []) given
 
 -- what `clear` asks for: the names of the source and of the inputs of both parties
 pub record ClearAsked : Type 0 where

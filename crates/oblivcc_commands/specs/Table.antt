@@ -3,7 +3,11 @@ use Rattle.std.specs.Prelude.{List, [], ◌∷◌, codes}
 use Rattle.command_grammar.specs.declared.form.WordForm.TheVariants.{Any, Number, Key}
 use Rattle.command_grammar.specs.Grammar.{Command}
 use Rattle.oblivcc_commands.specs.declared.table.CommandKind.{CommandKind}
-use Rattle.oblivcc_commands.specs.declared.table.CommandKind.TheVariants.{Clear, Deal}
+use Rattle.oblivcc_commands.specs.declared.table.CommandKind.TheVariants.{Check, Clear, Deal}
+
+-- `check FILE`
+abbrev pub check_command : Command CommandKind
+check_command = record { kind = Check; name = codes "check"; operands = Any ∷ []; options = []; required = [] }
 
 -- `clear FILE --input1 F --input2 F`
 abbrev pub clear_command : Command CommandKind
@@ -35,9 +39,10 @@ deal_command = record {
 
 -- all of them
 abbrev pub commands : List (Command CommandKind)
-commands = clear_command ∷ deal_command ∷ []
+commands = check_command ∷ clear_command ∷ deal_command ∷ []
 
 -- the command of a kind
 abbrev pub command_for : CommandKind → Command CommandKind
+command_for Check = check_command
 command_for Clear = clear_command
 command_for Deal = deal_command

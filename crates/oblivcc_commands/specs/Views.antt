@@ -1,7 +1,12 @@
 -- What was read of a command line as one of the definitions.
-use Rattle.oblivcc_commands.specs.Asked.{ClearAsked, DealAsked}
+use Rattle.oblivcc_commands.specs.Asked.{CheckAsked, ClearAsked, DealAsked}
+use Rattle.oblivcc_commands.specs.declared.asked.CheckWords.{CheckWords}
 use Rattle.oblivcc_commands.specs.declared.asked.ClearWords.{ClearWords}
 use Rattle.oblivcc_commands.specs.declared.asked.DealWords.{DealWords}
+
+-- what the words of `check` ask for
+abbrev pub check_of : CheckWords → CheckAsked
+check_of w = record { file = w.file.now }
 
 -- what the words of `clear` ask for
 abbrev pub clear_of : ClearWords → ClearAsked

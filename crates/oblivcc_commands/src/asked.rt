@@ -3,14 +3,21 @@
 ghost use Rattle.std.specs.Prelude.{◌≡◌, ◌≤◌};
 ghost use Rattle.command_grammar.specs.Grammar.{IsCommandOf, texts};
 ghost use Rattle.command_grammar.specs.Scanning.{operands_in, options_in};
-ghost use Rattle.oblivcc_commands.specs.Table.{clear_command, deal_command};
-ghost use Rattle.oblivcc_commands.specs.Asked.{IsClear, IsDeal};
+ghost use Rattle.oblivcc_commands.specs.Table.{check_command, clear_command, deal_command};
+ghost use Rattle.oblivcc_commands.specs.Asked.{IsCheck, IsClear, IsDeal};
 ghost use Rattle.oblivcc_commands.specs.Asks.{Asks, HaveOneMeaning};
-ghost use Rattle.oblivcc_commands.specs.Views.{clear_of, deal_of};
+ghost use Rattle.oblivcc_commands.specs.Views.{check_of, clear_of, deal_of};
 
 use crate::reader::read_words;
 use crate::table::{CommandKind, MOST_DEALT};
 use command_grammar::{key_or_zeros, number_or, text_or_empty, value, word_at, words_from};
+
+/// What `check` is asked for.
+#[derive(Clone, Copy)]
+pub struct CheckWords<'w> {
+    /// The source's name.
+    pub file: &'w str,
+}
 
 /// What `clear` is asked for.
 #[derive(Clone, Copy)]
@@ -38,8 +45,19 @@ pub struct DealWords<'w> {
 /// What a command line asks for.
 #[derive(Clone, Copy)]
 pub enum Asked<'w> {
+    Check(CheckWords<'w>),
     Clear(ClearWords<'w>),
     Deal(DealWords<'w>),
+}
+
+/// What the words of `check` ask for.
+fn read_check(words: &[String]) -> CheckWords<'_>
+    requires { IsCommandOf check_command (texts words.now) (operands_in check_command (texts words.now)) (options_in check_command (texts words.now)) }
+    ensures { IsCheck (texts words.now) (check_of result) }
+{
+    CheckWords {
+        file: word_at(words, 1),
+    }
 }
 
 /// What the words of `clear` ask for.
@@ -79,6 +97,7 @@ pub fn read_command(words: &[String]) -> Result<Asked<'_>, usize>
         Err(k) => return Err(k),
     };
     match command.kind {
+        CommandKind::Check => Ok(Asked::Check(read_check(words))),
         CommandKind::Clear => Ok(Asked::Clear(read_clear(words))),
         CommandKind::Deal => Ok(Asked::Deal(read_deal(words))),
     }

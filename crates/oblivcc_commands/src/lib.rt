@@ -5,7 +5,7 @@ mod asked;
 mod reader;
 mod table;
 
-pub use asked::{Asked, ClearWords, DealWords, have_one_meaning, read_command};
+pub use asked::{Asked, CheckWords, ClearWords, DealWords, have_one_meaning, read_command};
 pub use reader::{find_break, read_words};
 pub use table::CommandKind;
 

@@ -12,11 +12,19 @@ pub const MOST_DEALT: u64 = 1_048_576;
 /// Which command it is.
 #[derive(Clone, Copy, Debug, PartialEq, Eq)]
 pub enum CommandKind {
+    Check,
     Clear,
     Deal,
 }
 
-const COMMANDS: [Command<CommandKind>; 2] = [
+const COMMANDS: [Command<CommandKind>; 3] = [
+    Command {
+        kind: CommandKind::Check,
+        name: "check",
+        operands: &[WordForm::Any],
+        options: &[],
+        required: &[],
+    },
     Command {
         kind: CommandKind::Clear,
         name: "clear",

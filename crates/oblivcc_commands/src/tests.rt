@@ -601,6 +601,11 @@ fn rows(rt: HostRuntime) -> Result<(), Fail> {
 #[test]
 fn built_commands(rt: HostRuntime) -> Result<(), Fail> {
     let alloc = rt.alloc();
+    let words = words_of(alloc, "check a.oc")?;
+    match read_command(words.as_slice()) {
+        Ok(Asked::Check(asked)) => assert_eq!(&rt; asked.file, "a.oc"),
+        _ => assert!(&rt; false),
+    }
     let words = words_of(alloc, "clear --input1 --input2 b --input1 ")?;
     match read_command(words.as_slice()) {
         Ok(Asked::Clear(asked)) => {

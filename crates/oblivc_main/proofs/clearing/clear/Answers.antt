@@ -1,4 +1,4 @@
-use Rattle.std.proofs.Common.{refl, subst, ap, ◌∙◌}
+use Rattle.std.proofs.Common.{refl, subst}
 use Rattle.first_tree.specs.Shown.{shown}
 use Rattle.oblivc_main.specs.Endings.{Printed}
 use Rattle.oblivc_main.proofs.ClearRuns.{clear_stops, clear_done, clear_unwritten, clear_spent}

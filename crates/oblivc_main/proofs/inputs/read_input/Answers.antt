@@ -1,6 +1,5 @@
 use Rattle.std.proofs.Common.{◌≤◌, length, arith}
 use Rattle.std.proofs.lemmas.Bool.Decides.{nat_tests}
-use Rattle.oblivc_main.specs.Inputs.{signed}
 use Rattle.oblivc_main.proofs.InputForm.{word_read, word_lost}
 use Rattle.oblivc_main.proofs.inputs.read_input.Goals as goal
 

@@ -1,4 +1,4 @@
-use Rattle.std.proofs.Common.{◌≡◌, sym, ap, ◌∙◌, subst, refl, arith}
+use Rattle.std.proofs.Common.{◌∙◌, subst, arith}
 use Rattle.first_tree.specs.Shown.{shown_item}
 use Rattle.oblivc_main.specs.Endings.{Printed}
 use Rattle.oblivc_main.proofs.Fronts.{failed_all, spent_all, written_next}

@@ -1,5 +1,5 @@
-use Rattle.std.proofs.Common.{◌≡◌, sym, ap, ◌∙◌, subst, refl, ℤ, List, ℕ, ◌++◌, append_assoc, to_z, of_z}
-use Rattle.std.specs.Prelude.{codes, string_bytes, IfOk}
+use Rattle.std.proofs.Common.{◌≡◌, ap, ◌∙◌, List, ℕ, ◌++◌, append_assoc, to_z, of_z}
+use Rattle.std.specs.Prelude.{codes, string_bytes}
 use Rattle.std.specs.Int.{w128}
 use Rattle.std.specs.Fmt.{decimal, signed_decimal}
 use Rattle.std.proofs.lemmas.Int.{to_z-of_z}

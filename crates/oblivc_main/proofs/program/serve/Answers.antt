@@ -1,7 +1,7 @@
 use Rattle.std.proofs.Common.{refl, subst, ap, Ok}
 use Rattle.command_grammar.specs.Grammar.{texts}
 use Rattle.oblivcc_commands.specs.Asks.{Asks}
-use Rattle.oblivcc_commands.specs.declared.asked.Asked.TheVariants.{Clear, Deal}
+use Rattle.oblivcc_commands.specs.declared.asked.Asked.TheVariants.{Check, Clear, Deal}
 use Rattle.oblivc_main.specs.Statuses.{usage, command}
 use Rattle.oblivc_main.proofs.Completing.{answered}
 use Rattle.oblivc_main.proofs.DealtFiles.{deal_ends}
@@ -12,6 +12,11 @@ returns-in-Err g c = usage c.in-Err.k refl c.in-Err.ensures (record { silent = r
 
 pub deal-requires : goal.deal-requires
 deal-requires g c = let asks = subst (λ a. Asks (texts c.args.words.now) (Ok a)) c.in-Ok-Deal.field-0-is c.in-Ok-Deal.ensures in asks.few
+
+pub returns-in-Ok-Check : goal.returns-in-Ok-Check
+returns-in-Ok-Check g c =
+    let asks = subst (λ a. Asks (texts c.args.words.now) (Ok a)) c.in-Ok-Check.field-0-is c.in-Ok-Check.ensures in
+    command (Check c.in-Ok-Check.asked) asks (answered _ (Check c.in-Ok-Check.asked) c.check.result c.check.ensures.end (λ n apart. ap (λ told. told n) c.check.ensures.unchanged))
 
 pub returns-in-Ok-Clear : goal.returns-in-Ok-Clear
 returns-in-Ok-Clear g c =

@@ -2,7 +2,8 @@ use Rattle.std.proofs.Common.{◌≡◌, ap, ◌∙◌, List, ℕ, ◌++◌, app
 use Rattle.std.specs.Prelude.{codes, string_bytes}
 use Rattle.std.specs.Fmt.{decimal}
 use Rattle.std.proofs.lemmas.Result.{IfOk-weaker}
-use Rattle.oblivc_main.specs.Lines.{rule_name, refused_line}
+use Rattle.oblivc_main.specs.RuleNames.{rule_name}
+use Rattle.oblivc_main.specs.Lines.{refused_line}
 use Rattle.oblivc_main.proofs.saying.line_for_refusal.Goals as goal
 
 -- the pieces of the line, as they are written
