@@ -41,11 +41,12 @@ pub const COMMAND: [&[u8]; 6] = [
 ];
 
 /// Words of no command, some of which aren't text.
-pub const WORDS: [(&[&[u8]], &[u8]); 14] = [
+pub const WORDS: [(&[&[u8]], &[u8]); 15] = [
     (&[], b"usage 0\n"),
     (&[b"check"], b"usage 1\n"),
     (&[b"check", b"sum.oc", b"--input1"], b"usage 2\n"),
-    (&[b"clear", b"sum.oc", b"--input2", b"two"], b"usage 4\n"),
+    (&[b"clear", b"sum.oc", b"--steps", b"0"], b"usage 3\n"),
+    (&[b"clear", b"sum.oc", b"--public"], b"usage 3\n"),
     (
         &[
             b"clear",
@@ -145,8 +146,8 @@ pub const INPUTS: [(&[u8], &[u8], u8, &[u8], &[u8]); 42] = [
     (b"9223372036854775807", b"0", 0, b"-1\n", b""),
     (b"-9223372036854775808\n", b"3", 0, b"3\n", b""),
     (b"0", b"-4294967297", 0, b"-1\n", b""),
-    (b"", b"7", 9, b"", b"input 1\n"),
-    (b"5", b"", 9, b"", b"input 1\n"),
+    (b"", b"7", 3, b"", b"trap I1 2:29\n"),
+    (b"5", b"", 3, b"", b"trap I1 3:29\n"),
     (b"\n", b"7", 9, b"", b"input 1\n"),
     (b"5", b"\n", 9, b"", b"input 1\n"),
     (b"+5", b"7", 9, b"", b"input 1\n"),
@@ -167,10 +168,10 @@ pub const INPUTS: [(&[u8], &[u8], u8, &[u8], &[u8]); 42] = [
     (b"5", b"-9223372036854775809", 9, b"", b"input 1\n"),
     (b"00000000000000000005", b"7", 9, b"", b"input 1\n"),
     (b"5", b"00000000000000000005", 9, b"", b"input 1\n"),
-    (b"5\n6", b"7", 9, b"", b"input 1\n"),
-    (b"5", b"5\n6", 9, b"", b"input 1\n"),
-    (b"5\n\n", b"7", 9, b"", b"input 1\n"),
-    (b"5", b"5\n\n", 9, b"", b"input 1\n"),
+    (b"5\n6", b"7", 0, b"12\n", b""),
+    (b"5", b"5\n6", 0, b"10\n", b""),
+    (b"5\n\n", b"7", 9, b"", b"input 2\n"),
+    (b"5", b"5\n\n", 9, b"", b"input 2\n"),
     (b"5\r\n", b"7", 9, b"", b"input 1\n"),
     (b"5", b"5\r\n", 9, b"", b"input 1\n"),
     (b"\xff", b"7", 9, b"", b"input 1\n"),
@@ -234,13 +235,13 @@ pub const SOURCES: [(&[u8], u8, &[u8], &[u8]); 22] = [
         b"refused T1 1:43\n",
     ),
     (
-        b"void oc_main(void) { int a = 1; a++; }",
-        1,
-        b"",
-        b"refused X1 1:1\n",
+        b"void oc_main(void) { int a = 1; printf(\"%d\", ++a); a = 1 / (a - 2); }",
+        3,
+        b"2",
+        b"trap Z1 1:56\n",
     ),
     (b"void oc_main(void) { }", 0, b"", b""),
-    (NINE, 1, b"", b"refused X1 1:1\n"),
+    (NINE, 0, b"", b""),
     (SUM, 0, b"12\n", b""),
     (SPELLED, 0, b"12\n", b""),
 ];
@@ -258,8 +259,9 @@ pub struct Repeated {
 const TWELVES: &[u8] =
     b"12\n12\n12\n12\n12\n12\n12\n12\n12\n12\n12\n12\n12\n12\n12\n12\n12\n12\n12\n12\n12\n12\n12\n12\n12\n12\n12\n12\n12\n12\n12\n12\n12\n12\n12\n12\n12\n12\n12\n12\n12\n12\n12\n12\n12\n12\n12\n12\n12\n12\n12\n12\n12\n12\n12\n12\n12\n12\n12\n12\n12\n12\n12\n12\n12\n12\n12\n12\n12\n12\n12\n12\n12\n12\n12\n12\n12\n12\n12\n12\n12\n12\n12\n12\n12\n12\n12\n12\n12\n12\n12\n12\n12\n12\n12\n12\n";
 
-/// The longest source and one that is a byte longer; as many items as there may be, and one more.
-pub const REPEATED: [Repeated; 4] = [
+/// The longest source and one that is a byte longer; many items; the deepest operators and statements, and the deepest calls with one
+/// that is a call deeper.
+pub const REPEATED: [Repeated; 11] = [
     Repeated {
         text: [SUM, b" ", b""],
         times: 1048402,
@@ -287,14 +289,87 @@ pub const REPEATED: [Repeated; 4] = [
     },
     Repeated {
         text: [
-            b"void oc_main(void) {\n obliv int a = feedOblivInt(ocPrivate(0), 1);\n obliv int b = feedOblivInt(ocPrivate(0), 2);\n int r;\n revealOblivInt(&r, a + b, 0);\n",
-            b" printf(\"%d\\n\", r);\n",
-            b"}",
+            b"void oc_main(void){int a=1;printf(\"%d\\n\",",
+            b"!",
+            b"a);}",
         ],
-        times: 97,
-        status: 1,
+        times: 987,
+        status: 0,
+        out: b"0\n",
+        err: b"",
+    },
+    Repeated {
+        text: [
+            b"void oc_main(void){int a=1;printf(\"%d\\n\",",
+            b"- ",
+            b"a);}",
+        ],
+        times: 987,
+        status: 0,
+        out: b"-1\n",
+        err: b"",
+    },
+    Repeated {
+        text: [
+            b"void oc_main(void){int a=1;printf(\"%d\\n\",",
+            b"*&",
+            b"a);}",
+        ],
+        times: 493,
+        status: 0,
+        out: b"1\n",
+        err: b"",
+    },
+    Repeated {
+        text: [
+            b"void oc_main(void){int a=1;printf(\"%d\\n\",a",
+            b"+a",
+            b");}",
+        ],
+        times: 493,
+        status: 0,
+        out: b"494\n",
+        err: b"",
+    },
+    Repeated {
+        text: [b"void oc_main(void){", b"if(1)", b"printf(\"1\\n\");}"],
+        times: 247,
+        status: 0,
+        out: b"1\n",
+        err: b"",
+    },
+    Repeated {
+        text: [
+            b"void oc_main(void){obliv bool c;obliv int x=1;int r;",
+            b"obliv if(c) ",
+            b"x=2;revealOblivInt(&r,x,0);printf(\"%d\\n\",r);}",
+        ],
+        times: 198,
+        status: 0,
+        out: b"1\n",
+        err: b"",
+    },
+    Repeated {
+        text: [
+            b"void f(int n){if(n>0)f(n-1);}void oc_main(void){f(332);",
+            b"",
+            b"printf(\"1\\n\");}",
+        ],
+        times: 0,
+        status: 0,
+        out: b"1\n",
+        err: b"",
+    },
+    Repeated {
+        text: [
+            b"void f(int n){if(n>0)f(n-1);}void oc_main(void){f(333);",
+            b"",
+            b"printf(\"1\\n\");}",
+        ],
+        times: 0,
+        status: 3,
         out: b"",
-        err: b"refused X1 1:1\n",
+        err: b"trap M6 1:22\n",
     },
 ];
 

@@ -1,4 +1,5 @@
 pub mod Making
+pub mod Rising
 pub mod Words
 pub mod CellByCell
 pub mod Calls

@@ -1,10 +1,11 @@
 //! What a run holds, and why it stops.
 
+use crate::entered::Entered;
 use block_memory::Blocks;
 use oc_cells::TrapKind;
 use oc_source::Spot;
 use oc_values::{Items, NoMemory};
-use oc_walk::{Named, ShownItem};
+use oc_walk::ShownItem;
 use std::alloc::AllocError;
 
 /// Why a run stops before its end.
@@ -61,6 +62,6 @@ pub struct Store<'t> {
 #[derive(Drop)]
 pub struct Machine<'t> {
     pub store: Store<'t>,
-    pub entered: Items<Named>,
+    pub entered: Entered,
     pub steps: u64,
 }

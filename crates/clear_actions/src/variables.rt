@@ -2,15 +2,15 @@
 
 ghost use Rattle.std.specs.Prelude.{◌≡◌, ◌<◌, ◌-◌, ℕ, suc, [], length, reverse, IfOk};
 ghost use Rattle.oc_cells.specs.Memory.{ended};
-ghost use Rattle.oc_walk.specs.Walking.{step, block_of, close, finish};
+ghost use Rattle.oc_walk.specs.Walking.{step, close, finish};
 ghost use Rattle.oc_walk.specs.Cells.{slot as slot_place, opens};
 ghost use Rattle.clear_actions.specs.Acting.{bare, state_of, Gives, Moves, MovesWithin, SameBlocks};
 
 use crate::cells::{make_cells, odd};
+use crate::entered::Entered;
 use crate::machine::{Fault, Halt, Machine, Store};
 use oc_cells::{Address, CType};
 use oc_source::Spot;
-use oc_values::Items;
 use oc_walk::Named;
 use std::alloc::Global;
 use std::mem;
@@ -27,24 +27,11 @@ pub fn spend(machine: &mut Machine<'_>) -> Result<(), Fault>
     Ok(())
 }
 
-/// The block of the slot that was entered last under this number.
-fn find_block(entered: &[Named], slot: u64) -> Option<u64>
-    ensures { result ≡ block_of slot (reverse entered.now) }
-{
-    let mut found = None;
-    for named in entered {
-        if named.slot == slot {
-            found = Some(named.block);
-        }
-    }
-    found
-}
-
 /// Where the variable of a slot stands.
 pub fn find_slot(machine: &Machine<'_>, spot: Spot, slot: u64) -> Result<Address, Fault>
     ensures { Gives (slot_place bare spot slot (state_of machine.now)) result (state_of machine.now) }
 {
-    match find_block(machine.entered.as_slice(), slot) {
+    match machine.entered.find(slot) {
         Some(block) => Ok(Address::At { block, offset: 0 }),
         None => Err(odd(spot)),
     }
@@ -98,15 +85,15 @@ pub fn close_slots(machine: &mut Machine<'_>, count: u64)
 }
 
 /// Begins a call, in which no slot is entered yet: the caller's slots, for `end_call`. Takes no memory.
-pub fn begin_call(machine: &mut Machine<'_>, alloc: Global) -> Items<Named>
+pub fn begin_call(machine: &mut Machine<'_>, alloc: Global) -> Entered
     ensures slots { result ≡ machine.old.entered }
     ensures rest { machine.new ≡ record machine.old { entered = [] } }
 {
-    mem::replace(&mut machine.entered, Items::new(alloc))
+    mem::replace(&mut machine.entered, Entered::new(alloc))
 }
 
 /// Ends a call: its variables' blocks are gone, and the caller's slots are entered again.
-pub fn end_call(machine: &mut Machine<'_>, outer: Items<Named>)
+pub fn end_call(machine: &mut Machine<'_>, outer: Entered)
     ensures finishes { state_of machine.new ≡ finish (reverse outer) (state_of machine.old) }
     ensures same { SameBlocks machine.old.store machine.new.store }
 {

@@ -6,22 +6,22 @@ use Rattle.oc_outside.specs.Told.{appended}
 use Rattle.oc_outside.specs.declared.sinks.PutEnd.TheVariants.{Done as AllPut, Failed as NotPut, NoMemory as PutNoMemory}
 use Rattle.oblivcc_commands.specs.declared.asked.CheckWords.{CheckWords}
 use Rattle.oblivcc_commands.specs.declared.asked.Asked.TheVariants.{Check as CheckAsk}
-use Rattle.oblivc_main.specs.Forms.{accepted}
-use Rattle.oblivc_main.specs.Steps.{Takes, Fails, accepted_step}
+use Rattle.oblivc_main.specs.Forms.{source}
+use Rattle.oblivc_main.specs.Steps.{Takes, Fails, source_step}
 use Rattle.oblivc_main.specs.declared.status.Status.{Status}
 use Rattle.oblivc_main.specs.Endings.{Outside, Ends, finished, stopped, unwritten, without_memory, IsMeant, PrintsFront, Printed, IsSilent, files_of}
 use Rattle.oblivc_main.specs.declared.status.Status.TheVariants.{Done, NoMemory, Output}
 use Rattle.oblivc_main.proofs.Steps.{stops_first}
 
 -- the source stops the command before anything is printed
-pub check_stops : (o : Outside) (words : CheckWords) (s : Status) → (s ≡ NoMemory) ⊎ Fails (files_of o) (accepted_step words.file.now) s → IsSilent o.out → Ends o (CheckAsk words) s
+pub check_stops : (o : Outside) (words : CheckWords) (s : Status) → (s ≡ NoMemory) ⊎ Fails (files_of o) (source_step words.file.now) s → IsSilent o.out → Ends o (CheckAsk words) s
 check_stops o words s (inl none) same = without_memory none (inl same)
-check_stops o words s (inr h) same = stopped (stops_first (files_of o) (accepted_step words.file.now) [] s h) same
+check_stops o words s (inr h) same = stopped (stops_first (files_of o) (source_step words.file.now) [] s h) same
 
-module _ (o : Outside) (words : CheckWords) (a : AcceptedSource) (taken : Takes o.told (accepted_step words.file.now) (accepted a.typed)) where
+module _ (o : Outside) (words : CheckWords) (a : AcceptedSource) (taken : Takes o.told (source_step words.file.now) (source a.typed)) where
   meant : IsMeant o.told (CheckAsk words) (codes "ok\n") Done
   meant = record {
-    contents = accepted a.typed ∷ [];
+    contents = source a.typed ∷ [];
     taken = (taken, tt);
     meant = record { program = a.typed; read = refl; printed = refl; ended = refl };
   }

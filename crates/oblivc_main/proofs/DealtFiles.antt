@@ -10,7 +10,7 @@ use Rattle.oblivc_main.specs.Making.{Made, Writing, Makes, all_made, not_made, n
 use Rattle.oblivc_main.specs.Dealing.{dealt_files}
 use Rattle.oblivc_main.specs.Endings.{Outside, Ends, finished, unmade, without_memory, IsSilent, writing_of}
 use Rattle.oblivc_main.specs.declared.status.Status.{Status}
-use Rattle.oblivc_main.specs.declared.status.Status.TheVariants.{Done, Refused, NoCommand, File, Input, NoMemory, Output}
+use Rattle.oblivc_main.specs.declared.status.Status.TheVariants.{Done, Refused, NoCommand, Trap, Steps, File, Dealt, Input, NoMemory, Output}
 
 module _ (before between : Told) (faults_0 faults_1 : ℕ) (failed : Option (List ℕ)) (first : Made) (rest : List Made)
     (elsewhere : (n : List ℕ) → n ≢ first.0 → between n ≡ before n) where
@@ -33,7 +33,10 @@ module _ (before between : Told) (faults_0 faults_1 : ℕ) (failed : Option (Lis
   first_put bytes Done h = absurd h
   first_put bytes (Refused r) h = absurd h
   first_put bytes (NoCommand k) h = absurd h
-  first_put bytes Input h = absurd h
+  first_put bytes (Trap kind spot) h = absurd h
+  first_put bytes (Steps k) h = absurd h
+  first_put bytes (Dealt k) h = absurd h
+  first_put bytes (Input line) h = absurd h
   first_put bytes Output h = absurd h
 
 module _ (before between after : Told) (faults_0 faults_1 faults_2 : ℕ) (failed : Option (List ℕ)) (first second : Made)
@@ -68,7 +71,10 @@ module _ (before between after : Told) (faults_0 faults_1 faults_2 : ℕ) (faile
   second_lost bytes Done h = absurd h
   second_lost bytes (Refused r) h = absurd h
   second_lost bytes (NoCommand k) h = absurd h
-  second_lost bytes Input h = absurd h
+  second_lost bytes (Trap kind spot) h = absurd h
+  second_lost bytes (Steps k) h = absurd h
+  second_lost bytes (Dealt k) h = absurd h
+  second_lost bytes (Input line) h = absurd h
   second_lost bytes Output h = absurd h
 
 -- `deal` prints nothing

@@ -1,22 +1,21 @@
 -- The first bytes of a file, up to a limit, say of the whole file what its form needs.
-use Rattle.std.proofs.Common.{ℕ, ◌^◌, ◌≡◌, ◌≤◌, ℤ, pos, negsuc, List, [], ◌∷◌, ◌++◌, length, take, Option, Some, None, Bool, true, false, refl, sym, ◌∙◌, subst, arith, length-append, inl, inr, Result, Ok, Err, SFits, w64}
-use Rattle.std.specs.Prelude.{◌⊎◌, IfSome, IsSomeAnd, IsTrue}
-use Rattle.std.proofs.lemmas.List.{take_all}
-use Rattle.std.proofs.lemmas.Bool.{ltb-true}
-use Rattle.oc_values.specs.Integers.{is_in_bits}
-use Rattle.first_tree.specs.declared.program.Typed.{Typed}
+use Rattle.std.proofs.Common.{ℕ, ◌≡◌, ◌<◌, ◌≤◌, ℤ, List, length, take, Option, Some, None, refl, sym, ap, ◌∙◌, subst, arith, min, inl, inr, Result, Ok, Err}
+use Rattle.std.specs.Prelude.{◌⊎◌, IfSome, IsSomeAnd}
+use Rattle.std.proofs.lemmas.List.{take_all, length-take}
+use Rattle.std.proofs.lemmas.Bool.{cases_lt}
 use Rattle.accepted_sources.specs.Answers.{IsAccepted, Accepts}
 use Rattle.accepted_sources.specs.declared.source.AcceptedSource.{AcceptedSource}
 use Rattle.accepted_sources.specs.declared.source.SourceFault.{SourceFault}
 use Rattle.accepted_sources.specs.declared.source.SourceFault.TheVariants as fault
-use Rattle.oblivc_main.specs.Sources.{ReadsTree, status_of}
-use Rattle.oblivc_main.specs.Inputs.{IsInput, sign_of, line_end}
+use Rattle.input_words.specs.Telling.{AreItsWords, IsWrongAt}
+use Rattle.input_words.proofs.LongInputs.{long_wrong}
+use Rattle.oblivc_main.specs.Sources.{status_of}
 use Rattle.oblivc_main.specs.Reading.{Files, Fetches}
-use Rattle.oblivc_main.specs.Forms.{accepted_content, tree, word}
-use Rattle.oblivc_main.specs.Steps.{ReadStep, Reads, Fails, unreadable, malformed, accepted_step, source_step, input_step}
+use Rattle.oblivc_main.specs.Forms.{source_content, words}
+use Rattle.oblivc_main.specs.Steps.{ReadStep, Reads, Fails, unreadable, malformed, source_step, input_step}
 use Rattle.oblivc_main.specs.declared.status.Status.{Status}
-use Rattle.oblivc_main.specs.declared.status.Status.TheVariants.{Done, Refused, NoCommand, File, Input, NoMemory, Output}
-use Rattle.oblivc_main.proofs.SourceFronts.{below_limit, accepted_front, refused_front, first_front, not_first_front}
+use Rattle.oblivc_main.specs.declared.status.Status.TheVariants.{Done, Refused, NoCommand, Trap, Steps, File, Dealt, Input, NoMemory, Output}
+use Rattle.oblivc_main.proofs.SourceFronts.{below_limit, accepted_front, refused_front}
 
 -- what is told of a name says that these bytes are the front of the whole
 abbrev pub Fronts : Option (Option (List ℕ)) → ℕ → List ℕ → Type 0
@@ -36,60 +35,51 @@ unread f s limit NoMemory h = inl refl
 unread f s limit Done h = absurd h
 unread f s limit (Refused r) h = absurd h
 unread f s limit (NoCommand k) h = absurd h
-unread f s limit Input h = absurd h
+unread f s limit (Trap kind spot) h = absurd h
+unread f s limit (Steps n) h = absurd h
+unread f s limit (Dealt n) h = absurd h
+unread f s limit (Input line) h = absurd h
 unread f s limit Output h = absurd h
 
 -- ---- Sources
 
 -- what reading the bytes of a source answers, reading the file answers
-pub source_read : (f : Files) (name bytes : List ℕ) → Fetches f name 1048577 (Ok bytes) → (r : Result Typed Status) → ReadsTree bytes r → Reads tree f (source_step name) r
-source_read f name bytes h (Ok t) read = (h.0, h.1, (refl, first_front h.0 bytes t h.2 read))
-source_read f name bytes h (Err (Refused r)) read = inr (malformed h.0 h.1 (r, refl, not_first_front h.0 bytes r h.2 read))
-source_read f name bytes h (Err NoMemory) read = inl refl
-source_read f name bytes h (Err Done) read = absurd read
-source_read f name bytes h (Err (NoCommand k)) read = absurd read
-source_read f name bytes h (Err (File named)) read = absurd read
-source_read f name bytes h (Err Input) read = absurd read
-source_read f name bytes h (Err Output) read = absurd read
-
--- what reading the bytes of a source that has to be accepted answers, reading the file answers
 module _ (f : Files) (name bytes : List ℕ) (h : Fetches f name 1048577 (Ok bytes)) where
-  pub accepted_read : (a : AcceptedSource) → IsAccepted bytes a.program a.typed → Reads accepted_content f (accepted_step name) (Ok a)
-  accepted_read a is = (h.0, h.1, (refl, (a.program, accepted_front h.0 bytes a.program a.typed h.2 is)))
+  pub source_read : (a : AcceptedSource) → IsAccepted bytes a.program a.typed → Reads source_content f (source_step name) (Ok a)
+  source_read a is = (h.0, h.1, (refl, (a.program, accepted_front h.0 bytes a.program a.typed h.2 is)))
 
-  pub fault_stops : (fault : SourceFault) → Accepts bytes (Err fault) → Reads accepted_content f (accepted_step name) (Err (status_of fault))
+  pub fault_stops : (fault : SourceFault) → Accepts bytes (Err fault) → Reads source_content f (source_step name) (Err (status_of fault))
   fault_stops (fault.Refused broken spot) is = inr (malformed h.0 h.1 (broken, spot, refl, refused_front h.0 bytes broken spot h.2 is))
   fault_stops fault.NoMemory is = inl refl
 
 -- ---- Inputs
 
-ends_short : (m e : Bool) (digits : List ℕ) → length digits ≤ 19 → length (sign_of m ++ digits ++ line_end e) ≤ 21
-ends_short true true digits h = omega (arith, length-append (45 ∷ digits) (10 ∷ []))
-ends_short true false digits h = omega (arith, length-append (45 ∷ digits) [])
-ends_short false true digits h = omega (arith, length-append digits (10 ∷ []))
-ends_short false false digits h = omega (arith, length-append digits [])
+-- the front of a text is the whole, or both are wrong at one line
+module _ (whole bytes : List ℕ) (e : bytes ≡ take 1376277 whole) where
+  size : length bytes ≡ min 1376277 (length whole)
+  size = ap length e ∙ length-take 1376277 whole
 
-input_short : (bytes : List ℕ) (w : ℤ) → IsInput bytes w → length bytes ≤ 21
-input_short bytes w i = subst (λ xs. length xs ≤ 21) (sym i.text) (ends_short i.minus i.ended i.digits i.most)
+  same_or_wrong : (whole ≡ bytes) ⊎ ((number : ℕ) × IsWrongAt whole number × IsWrongAt bytes number)
+  same_or_wrong = at_length (cases_lt (length bytes) 1376277)
+    where
+      at_length : (length bytes < 1376277) ⊎ (1376277 ≤ length bytes) → (whole ≡ bytes) ⊎ ((number : ℕ) × IsWrongAt whole number × IsWrongAt bytes number)
+      at_length (inl short) = inl (below_limit whole bytes 1376277 e short)
+      at_length (inr long) =
+          let w = long_wrong whole (omega (arith, size, long)) in
+          inr (w.0, w.1, subst (λ bs. IsWrongAt bs w.0) (sym e) w.2)
 
-fits_word : (w : ℤ) → IsTrue (is_in_bits true 64 w) → SFits w64 w
-fits_word (pos n) h = omega (arith, ltb-true n (2 ^ 63) h)
-fits_word (negsuc n) h = omega (arith, ltb-true n (2 ^ 63) h)
+  words_read : (ws : List ℤ) → AreItsWords bytes ws → (whole ≡ bytes) ⊎ ((number : ℕ) × IsWrongAt whole number × IsWrongAt bytes number) → AreItsWords whole ws
+  words_read ws is (inl same) = subst (λ bs. AreItsWords bs ws) (sym same) is
+  words_read ws is (inr w) = let at : IsWrongAt bytes w.0 = w.2 in absurd (is.right w.0 at.first)
 
-pub input_fits : (bytes : List ℕ) (w : ℤ) → IsInput bytes w → SFits w64 w
-input_fits bytes w i = fits_word w i.range
+  wrong_read : (number : ℕ) → IsWrongAt bytes number → (whole ≡ bytes) ⊎ ((other : ℕ) × IsWrongAt whole other × IsWrongAt bytes other) → IsWrongAt whole number
+  wrong_read number is (inl same) = subst (λ bs. IsWrongAt bs number) (sym same) is
+  wrong_read number is (inr w) = let at : IsWrongAt bytes w.0 = w.2 in subst (λ n. IsWrongAt whole n) (is.only w.0 at.first) w.1
 
--- a text has the form of an input where its front has it
-whole_input : (whole bytes : List ℕ) (w : ℤ) → bytes ≡ take 1376277 whole → IsInput bytes w → IsInput whole w
-whole_input whole bytes w e i =
-    let short = input_short bytes w i in
-    subst (λ s. IsInput s w) (sym (below_limit whole bytes 1376277 e (omega (arith, short)))) i
+-- what reading the bytes of an input answers, reading the file answers
+module _ (f : Files) (name bytes : List ℕ) (h : Fetches f name 1376277 (Ok bytes)) where
+  pub input_read : (ws : List ℤ) → AreItsWords bytes ws → Reads words f (input_step name) (Ok ws)
+  input_read ws is = (h.0, h.1, (refl, words_read h.0 bytes h.2 ws is (same_or_wrong h.0 bytes h.2)))
 
-front_input : (whole bytes : List ℕ) (w : ℤ) → bytes ≡ take 1376277 whole → IsInput whole w → IsInput bytes w
-front_input whole bytes w e i = subst (λ s. IsInput s w) (sym (e ∙ take_all 1376277 whole (let s = input_short whole w i in omega arith))) i
-
-pub input_read : (f : Files) (name bytes : List ℕ) (w : ℤ) → Fetches f name 1376277 (Ok bytes) → IsInput bytes w → Reads word f (input_step name) (Ok w)
-input_read f name bytes w h i = (h.0, h.1, (refl, whole_input h.0 bytes w h.2 i))
-
-pub input_wrong : (f : Files) (name bytes : List ℕ) → Fetches f name 1376277 (Ok bytes) → ((w : ℤ) → IsInput bytes w → ⊥) → Fails f (input_step name) Input
-input_wrong f name bytes h n = malformed h.0 h.1 (refl, λ w i. n w (front_input h.0 bytes w h.2 i))
+  pub input_wrong : (line : ℕ) → IsWrongAt bytes line → Reads words f (input_step name) (Err (Input line))
+  input_wrong line wrong = inr (malformed h.0 h.1 (line, refl, wrong_read h.0 bytes h.2 line wrong (same_or_wrong h.0 bytes h.2)))

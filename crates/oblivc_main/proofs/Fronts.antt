@@ -5,8 +5,8 @@ use Rattle.std.proofs.lemmas.List.{take-append-le}
 use Rattle.oc_outside.specs.Counts.{Rose}
 use Rattle.oc_outside.specs.Told.{appended, appended-appended}
 use Rattle.oc_outside.specs.declared.sinks.PutEnd.TheVariants.{Failed, NoMemory}
-use Rattle.first_tree.specs.declared.run.ShownItem.{ShownItem}
-use Rattle.first_tree.specs.Shown.{shown, shown_item}
+use Rattle.oc_walk.specs.declared.run.ShownItem.{ShownItem}
+use Rattle.oblivc_main.specs.Shown.{shown, shown_item}
 use Rattle.oblivc_main.specs.Endings.{Printed}
 
 shown-append : (xs ys : List ShownItem) → shown (xs ++ ys) ≡ shown xs ++ shown ys

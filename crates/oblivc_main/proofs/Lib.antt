@@ -1,4 +1,3 @@
-pub mod InputForm
 pub mod Fronts
 pub mod Steps
 pub mod SourceFronts
@@ -7,5 +6,4 @@ pub mod ClearRuns
 pub mod CheckRuns
 pub mod DealtFiles
 pub mod Completing
-pub mod Refusing
 pub mod ProcessWords

@@ -7,16 +7,11 @@ use Rattle.oc_source.specs.declared.spot.Spot.{Spot}
 use Rattle.oc_source.specs.declared.parsed.Program.{Program}
 use Rattle.oc_lexer.specs.declared.token.LexRule.TheVariants.{L6}
 use Rattle.oc_lexer.specs.Places.{spot_after}
-use Rattle.oc_typing.specs.declared.program.Typed.{Typed as TypedProgram}
-use Rattle.first_tree.specs.declared.program.Typed.{Typed}
+use Rattle.oc_typing.specs.declared.program.Typed.{Typed}
 use Rattle.accepted_sources.specs.declared.rules.SourceRule.{SourceRule}
 use Rattle.accepted_sources.specs.declared.rules.SourceRule.TheVariants.{Lex, Parse, Types, Scopes}
 use Rattle.accepted_sources.specs.Accepted.{IsLexed, IsParsed, IsTyped, Accepted, IsRefusedBy}
 use Rattle.accepted_sources.specs.Answers.{IsAccepted, IsRefused}
-use Rattle.oblivc_main.specs.declared.refusal.Rule.{Rule}
-use Rattle.oblivc_main.specs.declared.refusal.Rule.TheVariants as rule
-use Rattle.oblivc_main.specs.declared.refusal.Refusal.{Refusal}
-use Rattle.oblivc_main.specs.Sources.{IsOther, IsFirst, IsNotFirst, Breaks}
 
 pub below_limit : (whole bytes : List ℕ) (limit : ℕ) → bytes ≡ take limit whole → length bytes < limit → whole ≡ bytes
 below_limit whole bytes limit e lt =
@@ -26,7 +21,7 @@ below_limit whole bytes limit e lt =
 parsed_size : (source : List ℕ) (program : Program) → IsParsed source program → length source ≤ 1048576
 parsed_size source program p = p.tokens.spelled.size
 
-accepted_size : (source : List ℕ) (t : TypedProgram) → Accepted source t → length source ≤ 1048576
+accepted_size : (source : List ℕ) (t : Typed) → Accepted source t → length source ≤ 1048576
 accepted_size source t a = parsed_size source a.typed.program a.typed.parsed
 
 -- a front is the whole, or both are long
@@ -40,10 +35,8 @@ front_or_long whole bytes e = at_length (cases_lt (length bytes) 1048577)
     at_length (inl short) = inl (below_limit whole bytes 1048577 e short)
     at_length (inr long) = inr (omega (arith, long), omega (arith, size, long))
 
--- ---- Sources that are accepted
-
 -- a text is accepted where its front is
-pub accepted_front : (whole bytes : List ℕ) (program : Program) (t : TypedProgram) → bytes ≡ take 1048577 whole → IsAccepted bytes program t → IsAccepted whole program t
+pub accepted_front : (whole bytes : List ℕ) (program : Program) (t : Typed) → bytes ≡ take 1048577 whole → IsAccepted bytes program t → IsAccepted whole program t
 accepted_front whole bytes program t e a =
     let size = accepted_size bytes t a.accepted in
     subst (λ s. IsAccepted s program t) (sym (below_limit whole bytes 1048577 e (omega (arith, size)))) a
@@ -82,40 +75,3 @@ refused_front whole bytes broken spot e h = at_front (front_or_long whole bytes 
     at_front : (whole ≡ bytes) ⊎ ((1048576 < length bytes) × (1048576 < length whole)) → IsRefused whole broken spot
     at_front (inl same) = subst (λ s. IsRefused s broken spot) (sym same) h
     at_front (inr long) = refused_long whole bytes broken spot long.0 long.1 h
-
--- ---- Sources of the first form
-
--- a text is of the first form where its front is
-pub first_front : (whole bytes : List ℕ) (t : Typed) → bytes ≡ take 1048577 whole → IsFirst bytes t → IsFirst whole t
-first_front whole bytes t e a =
-    let size = parsed_size bytes a.typed.program a.typed.parsed in
-    subst (λ s. IsFirst s t) (sym (below_limit whole bytes 1048577 e (omega (arith, size)))) a
-
--- a long text breaks one rule, at its start
-long_breaks : (source : List ℕ) (broken : Rule) (spot : Spot) → 1048576 < length source → Breaks source broken spot → (broken ≡ rule.Source (Lex L6)) × (spot ≡ spot_after [])
-long_breaks source (rule.Source broken) spot long b = let o = long_refused source broken spot long b in (ap rule.Source o.0, o.1)
-long_breaks source rule.First spot long b =
-    let other : IsOther source = b.0 in
-    let size = parsed_size source other.program other.parsed in absurd (omega (arith, size, long))
-
--- a long text breaks the rule that its front breaks, which is long too
-breaks_long : (whole bytes : List ℕ) (broken : Rule) (spot : Spot) → 1048576 < length bytes → 1048576 < length whole → Breaks bytes broken spot → Breaks whole broken spot
-breaks_long whole bytes (rule.Source broken) spot lb lw b = refused_by_long whole bytes broken spot lb lw b
-breaks_long whole bytes rule.First spot lb lw b =
-    let other : IsOther bytes = b.0 in
-    let size = parsed_size bytes other.program other.parsed in absurd (omega (arith, size, lb))
-
-not_first_long : (whole bytes : List ℕ) (r : Refusal) → 1048576 < length bytes → 1048576 < length whole → IsNotFirst bytes r → IsNotFirst whole r
-not_first_long whole bytes r lb lw h = record {
-  broken = breaks_long whole bytes r.rule r.spot lb lw h.broken;
-  only = λ broken spot b. let one = long_breaks whole broken spot lw b in let two = long_breaks bytes r.rule r.spot lb h.broken in (one.0 ∙ sym two.0, one.1 ∙ sym two.1);
-  none = λ t f. let size = parsed_size whole f.program f.parsed in absurd (omega (arith, size, lw));
-}
-
--- a text breaks the rule that its front breaks
-pub not_first_front : (whole bytes : List ℕ) (r : Refusal) → bytes ≡ take 1048577 whole → IsNotFirst bytes r → IsNotFirst whole r
-not_first_front whole bytes r e h = at_front (front_or_long whole bytes e)
-  where
-    at_front : (whole ≡ bytes) ⊎ ((1048576 < length bytes) × (1048576 < length whole)) → IsNotFirst whole r
-    at_front (inl same) = subst (λ s. IsNotFirst s r) (sym same) h
-    at_front (inr long) = not_first_long whole bytes r long.0 long.1 h

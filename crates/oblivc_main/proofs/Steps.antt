@@ -6,7 +6,7 @@ use Rattle.std.specs.Option.{unwrap_or}
 use Rattle.std.proofs.lemmas.Option.{none-some}
 use Rattle.oc_outside.specs.Counts.{Rose}
 use Rattle.oblivc_main.specs.Reading.{Told, Holds, IsAbsent, Files}
-use Rattle.oblivc_main.specs.Forms.{Content, FileForm, accepted_form, source_form, word_form, HasForm, IsMalformed}
+use Rattle.oblivc_main.specs.Forms.{Content, FileForm, source_form, input_form, HasForm, IsMalformed}
 use Rattle.oblivc_main.specs.Steps.{ReadStep, Takes, Fails, unreadable, malformed, StopsAt, IsReady}
 use Rattle.oblivc_main.specs.declared.status.Status.{Status}
 
@@ -53,9 +53,8 @@ present told name whole e h = none-some whole (sym (subst (λ t. IfSome t (λ o.
 
 -- bytes that have a form don't miss it
 apart : (form : FileForm) (bytes : List ℕ) (status : Status) → HasForm form bytes → IsMalformed form bytes status → ⊥
-apart accepted_form bytes status has wrong = let refused = wrong.3 in refused.none has.0 has.1
-apart source_form bytes status has wrong = let refused = wrong.2 in refused.none has.0 has.1
-apart word_form bytes status has wrong = wrong.1 has.0 has.1
+apart source_form bytes status has wrong = let refused = wrong.3 in refused.none has.0 has.1
+apart input_form bytes status has wrong = let at = wrong.2 in at.none has.0 has.1
 
 never_fails : (f : Files) (s : ReadStep) (status : Status) → (Rose f.faults_before f.faults_after → ⊥) → IsReady f.told s → Fails f s status → ⊥
 never_fails f s status faultless ready (unreadable is (inl absent)) = present f.told s.name ready.0 ready.1 absent

@@ -27,5 +27,5 @@ made_files (Deal words) = dealt_files (deal_of words)
 -- of what the files are read as, these bytes are printed, and the command ends with this status
 abbrev pub Means : Asked → List Content → List ℕ → Status → Type 0
 Means (Check words) contents bytes status = CheckMeans contents bytes status
-Means (Clear words) contents bytes status = ClearMeans contents bytes status
+Means (Clear words) contents bytes status = ClearMeans (clear_of words) contents bytes status
 Means (Deal words) contents bytes status = (bytes ≡ []) × (status ≡ Done)

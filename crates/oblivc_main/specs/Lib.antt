@@ -1,9 +1,8 @@
-pub mod Inputs
-pub mod InputParts
 pub mod Sources
 pub mod Reading
 pub mod Forms
 pub mod Steps
+pub mod Shown
 pub mod Making
 pub mod Checking
 pub mod Clearing

@@ -1,7 +1,9 @@
 -- The lines that go to the error stream.
 use Rattle.std.specs.Prelude.{ℕ, List, [], ◌∷◌, ◌++◌, codes}
 use Rattle.std.specs.Fmt.{decimal}
-use Rattle.oblivc_main.specs.RuleNames.{rule_name}
+use Rattle.oc_source.specs.declared.spot.Spot.{Spot}
+use Rattle.oc_cells.specs.declared.trap.TrapKind.{TrapKind}
+use Rattle.oblivc_main.specs.RuleNames.{source_name, trap_name}
 use Rattle.oblivc_main.specs.declared.refusal.Refusal.{Refusal}
 
 -- `usage K`: the words aren't a command
@@ -11,15 +13,27 @@ usage_line k = codes "usage " ++ decimal k ++ 10 ∷ []
 -- `refused RULE LINE:COLUMN`: the source is refused
 abbrev pub refused_line : Refusal → List ℕ
 refused_line r =
-    codes "refused " ++ rule_name r.rule ++ codes " " ++ decimal r.spot.line ++ codes ":" ++ decimal r.spot.column ++ codes "\n"
+    codes "refused " ++ source_name r.rule ++ codes " " ++ decimal r.spot.line ++ codes ":" ++ decimal r.spot.column ++ codes "\n"
 
 -- `file NAME`: a file can't be read or written
 abbrev pub file_line : List ℕ → List ℕ
 file_line name = codes "file " ++ name ++ 10 ∷ []
 
--- `input 1`: an input file hasn't the form of one word
-abbrev pub input_line : List ℕ
-input_line = codes "input 1\n"
+-- `trap KIND LINE:COLUMN`: the run met this trap
+abbrev pub trap_line : TrapKind → Spot → List ℕ
+trap_line kind spot = codes "trap " ++ trap_name kind ++ codes " " ++ decimal spot.line ++ codes ":" ++ decimal spot.column ++ codes "\n"
+
+-- `steps N`: the budget of N steps was spent
+abbrev pub steps_line : ℕ → List ℕ
+steps_line n = codes "steps " ++ decimal n ++ 10 ∷ []
+
+-- `dealt N`: the N dealt transfers were too few
+abbrev pub dealt_line : ℕ → List ℕ
+dealt_line n = codes "dealt " ++ decimal n ++ 10 ∷ []
+
+-- `input LINE`: this is the first wrong line of an input file
+abbrev pub input_line : ℕ → List ℕ
+input_line n = codes "input " ++ decimal n ++ 10 ∷ []
 
 -- `output`: the output can't be written
 abbrev pub output_line : List ℕ

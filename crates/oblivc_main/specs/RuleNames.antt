@@ -1,4 +1,4 @@
--- What the lines call the rules.
+-- What the lines call rules and traps.
 use Rattle.std.specs.Prelude.{ℕ, List, codes}
 use Rattle.oc_lexer.specs.declared.token.LexRule.{LexRule}
 use Rattle.oc_lexer.specs.declared.token.LexRule.TheVariants.{L1, L2, L3, L4, L5, L6}
@@ -10,8 +10,8 @@ use Rattle.scope_rules.specs.declared.rules.ScopeRule.{ScopeRule}
 use Rattle.scope_rules.specs.declared.rules.ScopeRule.TheVariants.{F1, F2, F3, F4, F5}
 use Rattle.accepted_sources.specs.declared.rules.SourceRule.{SourceRule}
 use Rattle.accepted_sources.specs.declared.rules.SourceRule.TheVariants.{Lex, Parse, Types, Scopes}
-use Rattle.oblivc_main.specs.declared.refusal.Rule.{Rule}
-use Rattle.oblivc_main.specs.declared.refusal.Rule.TheVariants.{Source, First}
+use Rattle.oc_cells.specs.declared.trap.TrapKind.{TrapKind}
+use Rattle.oc_cells.specs.declared.trap.TrapKind.TheVariants.{Z1, I1, M1, M2, M3, M4, M5, M6}
 
 -- a rule of tokens
 abbrev pub lex_name : LexRule → List ℕ
@@ -57,7 +57,13 @@ source_name (Parse rule) = parse_name rule
 source_name (Types rule) = types_name rule
 source_name (Scopes rule) = scopes_name rule
 
--- any rule: one that refuses a source, or X1, which asks for the first form
-abbrev pub rule_name : Rule → List ℕ
-rule_name (Source rule) = source_name rule
-rule_name First = codes "X1"
+-- a trap
+abbrev pub trap_name : TrapKind → List ℕ
+trap_name Z1 = codes "Z1"
+trap_name I1 = codes "I1"
+trap_name M1 = codes "M1"
+trap_name M2 = codes "M2"
+trap_name M3 = codes "M3"
+trap_name M4 = codes "M4"
+trap_name M5 = codes "M5"
+trap_name M6 = codes "M6"

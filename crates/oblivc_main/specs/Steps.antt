@@ -2,7 +2,7 @@
 use Rattle.std.specs.Prelude.{ℕ, ◌≡◌, List, ◌∷◌, ◌++◌, Some, Result, Ok, Err, ◌⊎◌}
 use Rattle.std.specs.List.{AllZip}
 use Rattle.oblivc_main.specs.Reading.{Told, Holds, Files, IsUnreadable, IsFile}
-use Rattle.oblivc_main.specs.Forms.{FileForm, Content, accepted_form, source_form, word_form, HasForm, IsReadAs, IsMalformed}
+use Rattle.oblivc_main.specs.Forms.{FileForm, Content, source_form, input_form, HasForm, IsReadAs, IsMalformed}
 use Rattle.oblivc_main.specs.declared.status.Status.{Status}
 use Rattle.oblivc_main.specs.declared.status.Status.TheVariants.{NoMemory}
 
@@ -11,17 +11,13 @@ pub record ReadStep : Type 0 where
   pub name : List ℕ
   pub form : FileForm
 
--- a source that has to be accepted is read
-abbrev pub accepted_step : List ℕ → ReadStep
-accepted_step name = record { name = name; form = accepted_form }
-
--- a source of the first form is read
+-- a source is read
 abbrev pub source_step : List ℕ → ReadStep
 source_step name = record { name = name; form = source_form }
 
--- an input file of one word is read
+-- an input file is read
 abbrev pub input_step : List ℕ → ReadStep
-input_step name = record { name = name; form = word_form }
+input_step name = record { name = name; form = input_form }
 
 -- the step's file has its form, and is read as this
 abbrev pub Takes : Told → ReadStep → Content → Type 0

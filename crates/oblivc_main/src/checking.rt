@@ -5,7 +5,7 @@ ghost use Rattle.oblivcc_commands.specs.declared.asked.Asked.TheVariants as comm
 ghost use Rattle.oblivc_main.specs.Endings.{Ends};
 
 use crate::printing::print_line;
-use crate::reading::read_accepted;
+use crate::reading::read_source;
 use crate::status::Status;
 use oblivcc_commands::CheckWords;
 use oc_outside::{PutEnd, Sink, Vault};
@@ -28,7 +28,7 @@ pub fn check<'w, V: Vault, S: Sink>(
     }) (commands.Check asked.now) result }
     ensures unchanged { V.contents files.new ≡ V.contents files.old }
 {
-    let _accepted = match read_accepted(alloc, files, asked.file) {
+    let _accepted = match read_source(alloc, files, asked.file) {
         Ok(accepted) => accepted,
         Err(status) => return status,
     };

@@ -1,50 +1,58 @@
 //! The command `clear`.
 
-ghost use Rattle.std.specs.Prelude.{◌≡◌, ◌≤◌, [], ◌∷◌, IfOk};
-ghost use Rattle.first_tree.specs.Clear.{Clear};
+ghost use Rattle.std.specs.Prelude.{◌≡◌, ◌≤◌, IfOk};
+ghost use Rattle.oc_meanings.specs.Clear.{Clear};
 ghost use Rattle.oblivcc_commands.specs.Views.{clear_of};
 ghost use Rattle.oblivcc_commands.specs.declared.asked.Asked.TheVariants as commands;
-ghost use Rattle.oblivc_main.specs.Clearing.{Runs, setup_of};
+ghost use Rattle.oblivc_main.specs.Clearing.{Runs, setup_of, end_of};
 ghost use Rattle.oblivc_main.specs.Endings.{Ends};
 
 use crate::printing::print_all;
-use crate::reading::{read_source, read_word};
+use crate::reading::{read_given, read_source};
 use crate::status::Status;
-use clear_run::{ClearRun, run_first};
-use dealt_transfer::MOST_TRANSFERS;
-use first_tree::{ClearSetup, Typed};
+use clear_walk::{ClearRun, run_clear};
+use command_grammar::list_or_none;
 use oblivcc_commands::ClearWords;
 use oc_outside::{PutEnd, Sink, Vault};
+use oc_typing::Typed;
 use oc_values::{Items, NoMemory};
+use oc_walk::{ClearSetup, Outcome};
 use std::alloc::Global;
 
-/// How many steps a run may take.
-const BUDGET: u64 = 1_000_000_000;
-
-/// A list of one word.
-fn one_word(alloc: Global, word: i64) -> Result<Items<i64>, NoMemory>
-    ensures { IfOk result (λ words. words ≡ word ∷ []) }
+/// What a run starts from, on these words of both parties.
+fn setup_of(
+    alloc: Global,
+    asked: &ClearWords<'_>,
+    first: Items<i64>,
+    second: Items<i64>,
+) -> Result<ClearSetup, NoMemory>
+    ensures { IfOk result (λ setup. setup ≡ setup_of (clear_of asked.now) first second) }
 {
-    let mut words = Items::new(alloc);
-    words.push(word)?;
-    Ok(words)
+    let public = list_or_none(alloc, asked.public)?;
+    Ok(ClearSetup {
+        public: Items::from_vec(public),
+        first,
+        second,
+        dealt: asked.dealt,
+        budget: asked.steps,
+    })
 }
 
-/// Runs a program on one word of each party.
-fn run_words(alloc: Global, typed: &Typed, first: i64, second: i64) -> Result<ClearRun, NoMemory>
-    ensures { IfOk result (λ run. Clear typed.now (setup_of first second) run.shown run.outcome) }
+/// Runs a program on these words of both parties.
+fn run_words(
+    alloc: Global,
+    asked: &ClearWords<'_>,
+    typed: &Typed,
+    first: Items<i64>,
+    second: Items<i64>,
+) -> Result<ClearRun, NoMemory>
+    ensures { IfOk result (λ run. Clear typed.now.structs typed.now.functions typed.now.entry (setup_of (clear_of asked.now) first second) run.shown run.outcome) }
 {
-    let setup = ClearSetup {
-        public: Items::new(alloc),
-        first: one_word(alloc, first)?,
-        second: one_word(alloc, second)?,
-        dealt: MOST_TRANSFERS,
-        budget: BUDGET,
-    };
-    run_first(alloc, typed, &setup)
+    let setup = setup_of(alloc, asked, first, second)?;
+    run_clear(alloc, typed, &setup)
 }
 
-/// Reads the source and both inputs, in this order, and runs the program.
+/// Reads the source and the inputs that are named, in this order, and runs the program.
 fn run_files<'w, V: Vault>(
     alloc: Global,
     asked: &ClearWords<'w>,
@@ -59,17 +67,29 @@ fn run_files<'w, V: Vault>(
     ensures never_falls { V.faults files.old ≤ V.faults files.new }
     ensures unchanged { V.contents files.new ≡ V.contents files.old }
 {
-    let typed = read_source(alloc, files, asked.file)?;
-    let first_word = read_word(alloc, files, asked.first)?;
-    let second_word = read_word(alloc, files, asked.second)?;
-    match run_words(alloc, &typed, first_word, second_word) {
+    let source = read_source(alloc, files, asked.file)?;
+    let first_words = read_given(alloc, files, asked.first)?;
+    let second_words = read_given(alloc, files, asked.second)?;
+    match run_words(alloc, asked, &source.typed, first_words, second_words) {
         Ok(run) => Ok(run),
         Err(_) => Err(Status::NoMemory),
     }
 }
 
-/// Reads the files of a command, runs its program and prints what it shows. A program of the first form
-/// always ends, so its outcome isn't asked for.
+/// How the command ends where all that the program shows was printed.
+fn end_of(asked: &ClearWords<'_>, outcome: Outcome) -> Status<'static>
+    ensures { result ≡ end_of (clear_of asked.now) outcome }
+{
+    match outcome {
+        Outcome::Done => Status::Done,
+        Outcome::Trap { kind, spot } => Status::Trap { kind, spot },
+        Outcome::StepsSpent => Status::Steps(asked.steps),
+        Outcome::DealtSpent => Status::Dealt(asked.dealt),
+    }
+}
+
+/// Reads the files of a command, runs its program and prints what it shows, also where it ends in a trap, or for want of
+/// steps or transfers.
 pub fn clear<'w, V: Vault, S: Sink>(
     alloc: Global,
     asked: &ClearWords<'w>,
@@ -91,7 +111,7 @@ pub fn clear<'w, V: Vault, S: Sink>(
         Err(status) => return status,
     };
     match print_all(alloc, out, run.shown.as_slice()) {
-        PutEnd::Done => Status::Done,
+        PutEnd::Done => end_of(asked, run.outcome),
         PutEnd::Failed => Status::Output,
         PutEnd::NoMemory => Status::NoMemory,
     }

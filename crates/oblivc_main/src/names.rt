@@ -1,10 +1,10 @@
-//! What the lines call the rules.
+//! What the lines call rules and traps.
 
 ghost use Rattle.std.specs.Prelude.{◌≡◌};
-ghost use Rattle.oblivc_main.specs.RuleNames.{lex_name, parse_name, types_name, scopes_name, source_name, rule_name};
+ghost use Rattle.oblivc_main.specs.RuleNames.{lex_name, parse_name, types_name, scopes_name, source_name, trap_name};
 
-use crate::refusal::Rule;
 use accepted_sources::SourceRule;
+use oc_cells::TrapKind;
 use oc_lexer::LexRule;
 use oc_parser::ParseRule;
 use scope_rules::ScopeRule;
@@ -68,7 +68,7 @@ fn scopes_name(rule: ScopeRule) -> &'static str
 }
 
 /// What a rule that refuses a source is called.
-fn source_name(rule: SourceRule) -> &'static str
+pub fn source_name(rule: SourceRule) -> &'static str
     ensures { result.now ≡ source_name rule }
 {
     match rule {
@@ -79,12 +79,18 @@ fn source_name(rule: SourceRule) -> &'static str
     }
 }
 
-/// What the line calls a rule.
-pub fn rule_name(rule: Rule) -> &'static str
-    ensures { result.now ≡ rule_name rule }
+/// What a trap is called.
+pub fn trap_name(kind: TrapKind) -> &'static str
+    ensures { result.now ≡ trap_name kind }
 {
-    match rule {
-        Rule::Source(rule) => source_name(rule),
-        Rule::First => "X1",
+    match kind {
+        TrapKind::Z1 => "Z1",
+        TrapKind::I1 => "I1",
+        TrapKind::M1 => "M1",
+        TrapKind::M2 => "M2",
+        TrapKind::M3 => "M3",
+        TrapKind::M4 => "M4",
+        TrapKind::M5 => "M5",
+        TrapKind::M6 => "M6",
     }
 }

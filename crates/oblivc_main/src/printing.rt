@@ -1,11 +1,11 @@
 //! Printing lines, and what a run shows.
 
 ghost use Rattle.std.specs.Prelude.{◌≡◌, IfOk, string_bytes};
-ghost use Rattle.first_tree.specs.Shown.{shown, shown_item, result_line as line_of_result};
+ghost use Rattle.oblivc_main.specs.Shown.{shown, shown_item, result_line as line_of_result};
 ghost use Rattle.oblivc_main.specs.Endings.{Printed};
 
-use first_tree::ShownItem;
 use oc_outside::{PutEnd, Sink, write_all};
+use oc_walk::ShownItem;
 use std::alloc::{AllocError, Global};
 
 /// The line of a result.

@@ -40,19 +40,24 @@ fn serve<'w, V: Vault, S: Sink>(
 /// Does what the words of a command line ask for, and answers the status to exit with.
 ///
 /// `check FILE` reads the source of that name, and prints `ok` and a newline to `out` where it is accepted.
-/// `clear FILE --input1 F --input2 F` reads the source of that name and one word of each party, runs the
-/// program in the clear and prints to `out` what it shows. `deal --key K --count N --out1 F --out2 F` writes the
+/// `clear FILE` reads the source of that name, and the words of the parties from the files of `--input1 F` and `--input2 F`,
+/// runs the program in the clear, with the public words of `--public LIST`, within the budget of `--steps N` and with the dealt
+/// transfers of `--dealt N`, and prints to `out` what it shows. `deal --key K --count N --out1 F --out2 F` writes the
 /// sender's half of N transfers that is dealt of the key K to the first file, and then the receiver's half to the
 /// second; it prints nothing. Options stand in any order. The statuses:
 ///
 /// - 0: all was printed or written to the files, and nothing was written to `err`;
 /// - 1: the source is refused; `err` says `refused RULE LINE:COLUMN`, with the first rule that it breaks and where:
 ///   L1 to L6 of its tokens, G1 and G2 of its tree, T1 to T12 of its types, F1 to F5 of its hidden scopes and frozen
-///   places, or, of `clear` alone, X1 at 1:1 where its tree isn't of the first form;
+///   places;
 /// - 2: the words aren't a command; `err` says `usage K`, with the least K such that no command begins
 ///   with the words 0 to K, or the number of words;
+/// - 3: the run met a trap; `err` says `trap KIND LINE:COLUMN`;
+/// - 4: the run spent its budget; `err` says `steps N`, with the budget;
 /// - 5: a file is absent, or reading or writing it failed; `err` says `file NAME`;
-/// - 9: an input file isn't one line of its form; `err` says `input 1`;
+/// - 8: the run needed more than the dealt transfers; `err` says `dealt N`, with their number;
+/// - 9: an input file isn't one word a line; `err` says `input LINE`, with the first wrong line, or 65,537 where it has more
+///   than 65,536;
 /// - 10: want of memory, which may come at any point; `err` says `memory` where that can be written;
 /// - 11: writing to `out` failed; `err` says `output`.
 ///

@@ -1,28 +1,24 @@
 //! Reading the files of a command.
 
 ghost use Rattle.std.specs.Prelude.{◌≡◌, ◌≤◌};
+ghost use Rattle.std.specs.Option.{option_map};
 ghost use Rattle.oblivc_main.specs.declared.status.Status.TheVariants as statuses;
-ghost use Rattle.oblivc_main.specs.Sources.{ReadsTree, status_of};
-ghost use Rattle.oblivc_main.specs.Forms.{accepted_content, tree, word};
+ghost use Rattle.oblivc_main.specs.Sources.{status_of};
+ghost use Rattle.oblivc_main.specs.Forms.{source_content, words};
 ghost use Rattle.oblivc_main.specs.Reading.{Fetches};
-ghost use Rattle.oblivc_main.specs.Steps.{Reads, accepted_step, source_step, input_step};
+ghost use Rattle.oblivc_main.specs.Steps.{Reads, source_step, input_step};
+ghost use Rattle.oblivc_main.specs.Clearing.{ReadsGiven};
 
-use crate::inputs::read_input;
-use crate::refusal::{Refusal, Rule};
+use crate::refusal::Refusal;
 use crate::status::Status;
 use accepted_sources::{AcceptedSource, SourceFault, accept};
-use first_form::read_first;
-use first_tree::Typed;
+use input_words::{MAX_BYTES, WordsFault, read_words};
 use oc_outside::{FileAnswer, Vault};
-use oc_source::Spot;
 use oc_values::Items;
 use std::alloc::Global;
 
 /// How many bytes of a source are read: one more than it may have.
 const SOURCE_LIMIT: u64 = 1_048_577;
-
-/// How many bytes of an input file are read: 65,537 lines of 21 bytes.
-const INPUT_LIMIT: u64 = 1_376_277;
 
 /// The bytes of a file, or the first of them where it has more than this many.
 fn read_bytes<'n, V: Vault>(
@@ -47,51 +43,28 @@ fn read_bytes<'n, V: Vault>(
     }
 }
 
-/// The end of a command at a refused source.
-fn refused(rule: Rule, spot: Spot) -> Status<'static>
-    ensures { result ≡ statuses.Refused (record { rule = rule; spot = spot }) }
-{
-    Status::Refused(Refusal { rule, spot })
-}
-
 /// The end of a command at a source that isn't accepted.
 fn not_accepted(fault: SourceFault) -> Status<'static>
     ensures { result ≡ status_of fault }
 {
     match fault {
-        SourceFault::Refused { rule, spot } => refused(Rule::Source(rule), spot),
+        SourceFault::Refused { rule, spot } => Status::Refused(Refusal { rule, spot }),
         SourceFault::NoMemory => Status::NoMemory,
     }
 }
 
-/// The typed tree of the first form of the bytes of a source, or why there is none: whether it is accepted is looked at
-/// first, and then the form of the tree.
-fn read_tree(alloc: Global, source: &[u8]) -> Result<Typed, Status<'static>>
-    ensures { ReadsTree source.now result }
-{
-    let accepted = match accept(alloc, source) {
-        Ok(accepted) => accepted,
-        Err(fault) => return Err(not_accepted(fault)),
-    };
-    match read_first(alloc, &accepted.program) {
-        Ok(Some(typed)) => Ok(typed),
-        Ok(None) => Err(refused(Rule::First, Spot { line: 1, column: 1 })),
-        Err(_) => Err(Status::NoMemory),
-    }
-}
-
 /// A source that is accepted, or why it isn't.
-pub fn read_accepted<'n, V: Vault>(
+pub fn read_source<'n, V: Vault>(
     alloc: Global,
     files: &mut V,
     name: &'n str,
 ) -> Result<AcceptedSource, Status<'n>>
-    ensures end { Reads accepted_content (record {
+    ensures end { Reads source_content (record {
       told = V.contents files.old;
       faults_before = V.faults files.old;
       faults_after = V.faults files.new;
       failed = V.failed files.new;
-    }) (accepted_step name.now) result }
+    }) (source_step name.now) result }
     ensures never_falls { V.faults files.old ≤ V.faults files.new }
     ensures unchanged { V.contents files.new ≡ V.contents files.old }
 {
@@ -102,32 +75,13 @@ pub fn read_accepted<'n, V: Vault>(
     }
 }
 
-/// The typed tree of the first form of a source, or why there is none.
-pub fn read_source<'n, V: Vault>(
+/// The words of an input file, or why there are none.
+fn read_input<'n, V: Vault>(
     alloc: Global,
     files: &mut V,
     name: &'n str,
-) -> Result<Typed, Status<'n>>
-    ensures end { Reads tree (record {
-      told = V.contents files.old;
-      faults_before = V.faults files.old;
-      faults_after = V.faults files.new;
-      failed = V.failed files.new;
-    }) (source_step name.now) result }
-    ensures never_falls { V.faults files.old ≤ V.faults files.new }
-    ensures unchanged { V.contents files.new ≡ V.contents files.old }
-{
-    let bytes = read_bytes(alloc, files, name, SOURCE_LIMIT)?;
-    read_tree(alloc, bytes.as_slice())
-}
-
-/// The word of an input file, or why there is none.
-pub fn read_word<'n, V: Vault>(
-    alloc: Global,
-    files: &mut V,
-    name: &'n str,
-) -> Result<i64, Status<'n>>
-    ensures end { Reads word (record {
+) -> Result<Items<i64>, Status<'n>>
+    ensures end { Reads words (record {
       told = V.contents files.old;
       faults_before = V.faults files.old;
       faults_after = V.faults files.new;
@@ -136,9 +90,31 @@ pub fn read_word<'n, V: Vault>(
     ensures never_falls { V.faults files.old ≤ V.faults files.new }
     ensures unchanged { V.contents files.new ≡ V.contents files.old }
 {
-    let bytes = read_bytes(alloc, files, name, INPUT_LIMIT)?;
-    match read_input(bytes.as_slice()) {
-        Some(word) => Ok(word),
-        None => Err(Status::Input),
+    let bytes = read_bytes(alloc, files, name, MAX_BYTES)?;
+    match read_words(alloc, bytes.as_slice()) {
+        Ok(list) => Ok(list),
+        Err(WordsFault::Wrong(line)) => Err(Status::Input(line)),
+        Err(WordsFault::NoMemory) => Err(Status::NoMemory),
+    }
+}
+
+/// The words of a party: none where no input is named.
+pub fn read_given<'n, V: Vault>(
+    alloc: Global,
+    files: &mut V,
+    name: Option<&'n str>,
+) -> Result<Items<i64>, Status<'n>>
+    ensures end { ReadsGiven (record {
+      told = V.contents files.old;
+      faults_before = V.faults files.old;
+      faults_after = V.faults files.new;
+      failed = V.failed files.new;
+    }) (option_map (λ n. n.now) name.entry) result }
+    ensures never_falls { V.faults files.old ≤ V.faults files.new }
+    ensures unchanged { V.contents files.new ≡ V.contents files.old }
+{
+    match name {
+        Some(name) => read_input(alloc, files, name),
+        None => Ok(Items::new(alloc)),
     }
 }

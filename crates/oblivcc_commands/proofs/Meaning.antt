@@ -1,9 +1,9 @@
 -- Words ask for one thing at most.
-use Rattle.std.proofs.Common.{ℕ, ◌≡◌, List, [], ◌∷◌, Some, refl, sym, ap, ◌∙◌, codes, get_or, lit<}
+use Rattle.std.proofs.Common.{ℕ, ◌≡◌, ℤ, List, [], ◌∷◌, Option, Some, refl, sym, ap, ◌∙◌, codes, get_or, lit<}
 use Rattle.std.specs.Prelude.{Contains}
 use Rattle.std.specs.Option.{unwrap_or}
 use Rattle.command_grammar.specs.Grammar.{Given, HasOneReading, IsCommand}
-use Rattle.command_grammar.specs.Values.{value_of}
+use Rattle.command_grammar.specs.Values.{list_or_none, number_or, value_of}
 use Rattle.command_grammar.proofs.Fronts.{one_reading}
 use Rattle.oblivcc_commands.specs.Table.{check_command, clear_command, commands, deal_command}
 use Rattle.oblivcc_commands.specs.Asked.{CheckAsked, ClearAsked, DealAsked, IsCheck, IsClear, IsDeal}
@@ -36,12 +36,17 @@ pub clear_once : (ws : List (List ℕ)) (d e : ClearAsked) → IsClear ws d → 
 clear_once ws d e p q =
     let r = one ws clear_command clear_command clear_listed clear_listed (d.file ∷ []) (e.file ∷ []) p.given q.given p.command q.command in
     let file : d.file ≡ e.file = ap (λ ws. get_or ws 0 []) r.1 in
-    let first = same_value p.given q.given (codes "--input1") d.first e.first r.2 p.first q.first in
-    let second = same_value p.given q.given (codes "--input2") d.second e.second r.2 p.second q.second in
-    ap (λ x. asked x d.first d.second) file ∙ ap (λ x. asked e.file x d.second) first ∙ ap (λ x. asked e.file e.first x) second
+    let first : d.first ≡ e.first = p.first ∙ ap (λ gs. value_of gs (codes "--input1")) r.2 ∙ sym q.first in
+    let second : d.second ≡ e.second = p.second ∙ ap (λ gs. value_of gs (codes "--input2")) r.2 ∙ sym q.second in
+    let public : d.public ≡ e.public = p.public ∙ ap (λ gs. list_or_none (value_of gs (codes "--public"))) r.2 ∙ sym q.public in
+    let steps : d.steps ≡ e.steps = p.steps ∙ ap (λ gs. number_or 1000000000 (value_of gs (codes "--steps"))) r.2 ∙ sym q.steps in
+    let dealt : d.dealt ≡ e.dealt = p.dealt ∙ ap (λ gs. number_or 1048576 (value_of gs (codes "--dealt"))) r.2 ∙ sym q.dealt in
+    ap (λ x. asked x d.first d.second d.public d.steps d.dealt) file ∙ ap (λ x. asked e.file x d.second d.public d.steps d.dealt) first
+    ∙ ap (λ x. asked e.file e.first x d.public d.steps d.dealt) second ∙ ap (λ x. asked e.file e.first e.second x d.steps d.dealt) public
+    ∙ ap (λ x. asked e.file e.first e.second e.public x d.dealt) steps ∙ ap (λ x. asked e.file e.first e.second e.public e.steps x) dealt
   where
-    asked : List ℕ → List ℕ → List ℕ → ClearAsked
-    asked file first second = record { file = file; first = first; second = second }
+    asked : List ℕ → Option (List ℕ) → Option (List ℕ) → List ℤ → ℕ → ℕ → ClearAsked
+    asked file first second public steps dealt = record { file = file; first = first; second = second; public = public; steps = steps; dealt = dealt }
 
 pub deal_once : (ws : List (List ℕ)) (d e : DealAsked) → IsDeal ws d → IsDeal ws e → d ≡ e
 deal_once ws d e p q =

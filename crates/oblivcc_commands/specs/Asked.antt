@@ -1,9 +1,9 @@
 -- What each command asks for.
-use Rattle.std.specs.Prelude.{ℕ, ◌≡◌, ◌≤◌, List, [], ◌∷◌, codes, Some, Ok}
+use Rattle.std.specs.Prelude.{ℕ, ◌≡◌, ◌≤◌, ℤ, List, [], ◌∷◌, codes, Option, Some, Ok}
 use Rattle.hex.specs.Hex.{decode_sized}
 use Rattle.command_grammar.specs.Forms.{decimal_value}
 use Rattle.command_grammar.specs.Grammar.{Given, IsCommandOf}
-use Rattle.command_grammar.specs.Values.{value_of}
+use Rattle.command_grammar.specs.Values.{list_or_none, number_or, value_of}
 use Rattle.oblivcc_commands.specs.Table.{check_command, clear_command, deal_command}
 
 -- what `check` asks for: the source's name
@@ -15,18 +15,27 @@ pub record IsCheck (words : List (List ℕ)) (d : CheckAsked) : Type 0 where
   pub given : List Given
   pub command : IsCommandOf check_command words (d.file ∷ []) given
 
--- what `clear` asks for: the names of the source and of the inputs of both parties
+-- what `clear` asks for: the source's name, those of the inputs of both parties where they are given, the public words, and
+-- how many steps and dealt transfers the run may use
 pub record ClearAsked : Type 0 where
   pub file : List ℕ
-  pub first : List ℕ
-  pub second : List ℕ
+  pub first : Option (List ℕ)
+  pub second : Option (List ℕ)
+  pub public : List ℤ
+  pub steps : ℕ
+  pub dealt : ℕ
 
--- the words are `clear` and ask for this
+-- the words are `clear` and ask for this: what isn't given is no input, no public word, and as many steps and transfers as may be
 pub record IsClear (words : List (List ℕ)) (d : ClearAsked) : Type 0 where
   pub given : List Given
   pub command : IsCommandOf clear_command words (d.file ∷ []) given
-  pub first : value_of given (codes "--input1") ≡ Some d.first
-  pub second : value_of given (codes "--input2") ≡ Some d.second
+  pub first : d.first ≡ value_of given (codes "--input1")
+  pub second : d.second ≡ value_of given (codes "--input2")
+  pub public : d.public ≡ list_or_none (value_of given (codes "--public"))
+  pub steps : d.steps ≡ number_or 1000000000 (value_of given (codes "--steps"))
+  pub dealt : d.dealt ≡ number_or 1048576 (value_of given (codes "--dealt"))
+  pub few_steps : d.steps ≤ 1000000000
+  pub few_dealt : d.dealt ≤ 1048576
 
 -- what `deal` asks for: the key's 32 bytes, the number of transfers, and the names of the sender's and the receiver's file
 pub record DealAsked : Type 0 where

@@ -1,6 +1,6 @@
 -- The commands. The slots of an option are numbers that the options of one command share out.
 use Rattle.std.specs.Prelude.{List, [], ◌∷◌, codes}
-use Rattle.command_grammar.specs.declared.form.WordForm.TheVariants.{Any, Number, Key}
+use Rattle.command_grammar.specs.declared.form.WordForm.TheVariants.{Any, Number, Key, IntegerList}
 use Rattle.command_grammar.specs.Grammar.{Command}
 use Rattle.oblivcc_commands.specs.declared.table.CommandKind.{CommandKind}
 use Rattle.oblivcc_commands.specs.declared.table.CommandKind.TheVariants.{Check, Clear, Deal}
@@ -9,7 +9,7 @@ use Rattle.oblivcc_commands.specs.declared.table.CommandKind.TheVariants.{Check,
 abbrev pub check_command : Command CommandKind
 check_command = record { kind = Check; name = codes "check"; operands = Any ∷ []; options = []; required = [] }
 
--- `clear FILE --input1 F --input2 F`
+-- `clear FILE [--input1 F] [--input2 F] [--public LIST] [--steps N] [--dealt N]`
 abbrev pub clear_command : Command CommandKind
 clear_command = record {
   kind = Clear;
@@ -18,8 +18,11 @@ clear_command = record {
   options =
       record { name = codes "--input1"; form = Any; slots = 0 ∷ [] } ∷
       record { name = codes "--input2"; form = Any; slots = 1 ∷ [] } ∷
+      record { name = codes "--public"; form = IntegerList; slots = 2 ∷ [] } ∷
+      record { name = codes "--steps"; form = Number 1 1000000000; slots = 3 ∷ [] } ∷
+      record { name = codes "--dealt"; form = Number 0 1048576; slots = 4 ∷ [] } ∷
       [];
-  required = 0 ∷ 1 ∷ [];
+  required = [];
 }
 
 -- `deal --key K --count N --out1 F --out2 F`

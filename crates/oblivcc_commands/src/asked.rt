@@ -9,7 +9,7 @@ ghost use Rattle.oblivcc_commands.specs.Asks.{Asks, HaveOneMeaning};
 ghost use Rattle.oblivcc_commands.specs.Views.{check_of, clear_of, deal_of};
 
 use crate::reader::read_words;
-use crate::table::{CommandKind, MOST_DEALT};
+use crate::table::{CommandKind, MOST_DEALT, MOST_STEPS};
 use command_grammar::{key_or_zeros, number_or, text_or_empty, value, word_at, words_from};
 
 /// What `check` is asked for.
@@ -24,10 +24,16 @@ pub struct CheckWords<'w> {
 pub struct ClearWords<'w> {
     /// The source's name.
     pub file: &'w str,
-    /// The name of the first party's input.
-    pub first: &'w str,
-    /// The name of the second party's input.
-    pub second: &'w str,
+    /// The name of the first party's input, where one is given.
+    pub first: Option<&'w str>,
+    /// The name of the second party's input, where one is given.
+    pub second: Option<&'w str>,
+    /// The list of public words, where one is given: `list_or_none` reads it.
+    pub public: Option<&'w str>,
+    /// How many steps the run may take.
+    pub steps: u64,
+    /// How many dealt transfers the run may use.
+    pub dealt: u32,
 }
 
 /// What `deal` is asked for.
@@ -68,8 +74,11 @@ fn read_clear(words: &[String]) -> ClearWords<'_>
     let options = words_from(words, 2);
     ClearWords {
         file: word_at(words, 1),
-        first: text_or_empty(value(options, "--input1")),
-        second: text_or_empty(value(options, "--input2")),
+        first: value(options, "--input1"),
+        second: value(options, "--input2"),
+        public: value(options, "--public"),
+        steps: number_or(value(options, "--steps"), MOST_STEPS, MOST_STEPS),
+        dealt: number_or(value(options, "--dealt"), MOST_DEALT, MOST_DEALT) as u32,
     }
 }
 

@@ -9,6 +9,9 @@ use command_grammar::{Command, CommandOption, WordForm};
 /// How many transfers are dealt at most.
 pub const MOST_DEALT: u64 = 1_048_576;
 
+/// How many steps a run takes at most.
+pub const MOST_STEPS: u64 = 1_000_000_000;
+
 /// Which command it is.
 #[derive(Clone, Copy, Debug, PartialEq, Eq)]
 pub enum CommandKind {
@@ -40,8 +43,29 @@ const COMMANDS: [Command<CommandKind>; 3] = [
                 form: WordForm::Any,
                 slots: &[1],
             },
+            CommandOption {
+                name: "--public",
+                form: WordForm::IntegerList,
+                slots: &[2],
+            },
+            CommandOption {
+                name: "--steps",
+                form: WordForm::Number {
+                    least: 1,
+                    most: MOST_STEPS,
+                },
+                slots: &[3],
+            },
+            CommandOption {
+                name: "--dealt",
+                form: WordForm::Number {
+                    least: 0,
+                    most: MOST_DEALT,
+                },
+                slots: &[4],
+            },
         ],
-        required: &[0, 1],
+        required: &[],
     },
     Command {
         kind: CommandKind::Deal,

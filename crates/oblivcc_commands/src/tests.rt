@@ -610,9 +610,21 @@ fn built_commands(rt: HostRuntime) -> Result<(), Fail> {
     match read_command(words.as_slice()) {
         Ok(Asked::Clear(asked)) => {
             assert_eq!(&rt;
-                (asked.file, asked.first, asked.second),
-                ("--input1", "", "b")
+                (asked.file, asked.first, asked.second, asked.public),
+                ("--input1", Some(""), Some("b"), None)
             );
+            assert_eq!(&rt; (asked.steps, asked.dealt), (1_000_000_000, 1_048_576));
+        }
+        _ => assert!(&rt; false),
+    }
+    let words = words_of(alloc, "clear a.oc --dealt 7 --public 3,10 --steps 5")?;
+    match read_command(words.as_slice()) {
+        Ok(Asked::Clear(asked)) => {
+            assert_eq!(&rt;
+                (asked.first, asked.second, asked.public),
+                (None, None, Some("3,10"))
+            );
+            assert_eq!(&rt; (asked.steps, asked.dealt), (5, 7));
         }
         _ => assert!(&rt; false),
     }

@@ -1,5 +1,5 @@
 use Rattle.std.proofs.Common.{refl, subst}
-use Rattle.first_tree.specs.Shown.{shown}
+use Rattle.oblivc_main.specs.Shown.{shown}
 use Rattle.oblivc_main.specs.Endings.{Printed}
 use Rattle.oblivc_main.proofs.ClearRuns.{clear_stops, clear_done, clear_unwritten, clear_spent}
 use Rattle.oblivc_main.proofs.clearing.clear.Goals as goal
@@ -9,7 +9,7 @@ returns-in-Err-clause-end g c = clear_stops _ c.args.asked.now c.in-Err.status c
 
 pub returns-in-Done-clause-end : goal.returns-in-Done-clause-end
 returns-in-Done-clause-end g c =
-    clear_done _ c.args.asked.now c.in-Ok.run' c.in-Ok.ensures.end
+    clear_done _ c.args.asked.now c.in-Ok.run' c.in-Ok.ensures.end c.end_of.result c.end_of.ensures
     (subst (λ items. Printed (shown items) _ (g.S.Sink.faults c.args.out.now) (g.S.Sink.faults c.print_all.new.out) (g.S.Sink.written c.args.out.now) (g.S.Sink.written c.print_all.new.out)) c.as_slice.ensures
     (subst (λ r. Printed (shown c.as_slice.result.now) r (g.S.Sink.faults c.args.out.now) (g.S.Sink.faults c.print_all.new.out) (g.S.Sink.written c.args.out.now) (g.S.Sink.written c.print_all.new.out)) c.in-Done.is c.print_all.ensures))
 

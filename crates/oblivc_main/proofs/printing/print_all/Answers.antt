@@ -1,5 +1,5 @@
 use Rattle.std.proofs.Common.{◌∙◌, subst, arith}
-use Rattle.first_tree.specs.Shown.{shown_item}
+use Rattle.oblivc_main.specs.Shown.{shown_item}
 use Rattle.oblivc_main.specs.Endings.{Printed}
 use Rattle.oblivc_main.proofs.Fronts.{failed_all, spent_all, written_next}
 use Rattle.oblivc_main.proofs.printing.print_all.Goals as goal

@@ -1,6 +1,6 @@
 use Rattle.std.proofs.Common.{◌≡◌, ◌≤◌, length, take}
 use Rattle.oc_outside.specs.Told.{appended}
-use Rattle.first_tree.specs.Shown.{shown}
+use Rattle.oblivc_main.specs.Shown.{shown}
 use Rattle.oblivc_main.proofs.printing.print_all.Given as goal
 
 abbrev pub invariant-loop-item : goal.invariant-loop-item

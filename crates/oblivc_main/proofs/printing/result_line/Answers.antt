@@ -4,7 +4,7 @@ use Rattle.std.specs.Int.{w128}
 use Rattle.std.specs.Fmt.{decimal, signed_decimal}
 use Rattle.std.proofs.lemmas.Int.{to_z-of_z}
 use Rattle.std.proofs.lemmas.Result.{IfOk-weaker}
-use Rattle.first_tree.specs.Shown.{result_line as line_of_result}
+use Rattle.oblivc_main.specs.Shown.{result_line as line_of_result}
 use Rattle.oblivc_main.proofs.printing.result_line.Goals as goal
 
 -- the pieces of the line, as they are written

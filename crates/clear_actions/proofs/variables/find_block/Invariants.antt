@@ -1,7 +1,0 @@
-use Rattle.std.proofs.Common.{◌≡◌, take}
-use Rattle.std.specs.Prelude.{reverse}
-use Rattle.oc_walk.specs.Walking.{block_of}
-use Rattle.clear_actions.proofs.variables.find_block.Given as goal
-
-abbrev pub invariant-loop-named : goal.invariant-loop-named
-invariant-loop-named l = l.found ≡ block_of l.slot (reverse (take l.named-index l.entered))

@@ -1,6 +1,0 @@
-use Rattle.std.proofs.Common.{◌≡◌, drop}
-use Rattle.first_tree.specs.Values.{formatted, onto}
-use Rattle.clear_run.proofs.builtins.format.Given as goal
-
-abbrev pub invariant-loop-piece : goal.invariant-loop-piece
-invariant-loop-piece l = formatted l.pieces l.values ≡ onto l.bytes.items (formatted (drop l.piece-index l.pieces) l.rest)

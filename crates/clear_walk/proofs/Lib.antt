@@ -1,0 +1,13 @@
+pub mod Weight
+pub mod Falls
+pub mod Walked
+pub mod Actions
+pub mod Forms
+pub mod Bodies
+pub mod Loops
+pub mod Calls
+pub mod Steps
+pub mod Turns
+pub mod Targets
+pub mod Ends
+pub mod Entry

@@ -1,0 +1,4 @@
+pub mod WordForm
+pub mod LineForm
+pub mod Readings
+pub mod LongInputs
