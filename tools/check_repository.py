@@ -18,11 +18,12 @@ def broken_links():
 
 
 def other_examples():
-    for name in ["sum.oc", "sum.input1", "sum.input2"]:
-        if (EXAMPLES / name).read_bytes() != (STORED / "data" / name).read_bytes():
-            yield f"examples/{name} isn't what the stored run reads"
-    if (EXAMPLES / "sum.expected").read_bytes() != (STORED / "stdout").read_bytes():
-        yield "examples/sum.expected isn't what the stored run prints"
+    first = EXAMPLES / "first"
+    for name, stored in [("first.oc", "sum.oc"), ("input1", "sum.input1"), ("input2", "sum.input2")]:
+        if (first / name).read_bytes() != (STORED / "data" / stored).read_bytes():
+            yield f"examples/first/{name} isn't what the stored run reads"
+    if (first / "expected").read_bytes() != (STORED / "stdout").read_bytes():
+        yield "examples/first/expected isn't what the stored run prints"
 
 
 def absolute_paths():

@@ -1,6 +1,6 @@
 #!/usr/bin/env python3
 """Compares what the program says of sources with what it has to say: of those of tests/checked_sources.txt, of the programs in
-the tables of docs/LANGUAGE.md, and of some at a limit.
+the tables of docs/RULES.md, and of some at a limit.
 
     python3 tools/check_sources.py PROGRAM
 
@@ -37,7 +37,7 @@ LIMITS = [
 
 TOP = pathlib.Path(__file__).resolve().parent.parent
 CASES = TOP / "tests" / "checked_sources.txt"
-LANGUAGE = TOP / "docs" / "LANGUAGE.md"
+RULES = TOP / "docs" / "RULES.md"
 
 # A program, what `check` says of it, and the same program with the one thing mended.
 ROW = re.compile(r"\| `(.+)` \| `(refused .+)` \| `(.+)` \|")
@@ -99,7 +99,7 @@ def main():
     program = pathlib.Path(sys.argv[1]).resolve()
     if not program.exists():
         sys.exit("check_sources: the program isn't built")
-    cases = [*read_cases(CASES.read_text()), *described_cases(LANGUAGE.read_text()), *long_cases()]
+    cases = [*read_cases(CASES.read_text()), *described_cases(RULES.read_text()), *long_cases()]
     with tempfile.TemporaryDirectory() as folder, ThreadPoolExecutor(4) as pool:
         wrong = [it for it in pool.map(lambda case: answered(program, folder, case), cases) if it]
     print("\n".join([*wrong, f"check_sources: {len(cases)} sources, {len(wrong)} other answers"]))

@@ -5,7 +5,7 @@ use mathlib.Core.List.{reverse_aux}
 use Rattle.std.specs.List.Sorted.{IsPartitionedBy}
 use Rattle.oc_walk.specs.declared.run.Named.{Named}
 use Rattle.oc_walk.specs.Walking.{block_of}
-use Rattle.clear_actions.specs.Rising.{is_over, is_over_slot, rises, stands_over, IsPlaceOf}
+use Rattle.clear_actions.specs.Rising.{is_over, is_over_slot, rises, stands_over, has_slot, IsPlaceOf}
 
 pub both_true : (a b : Bool) → (a && b) ≡ true → (a ≡ true) × (b ≡ true)
 both_true true true h = (refl, refl)
@@ -121,3 +121,59 @@ module _ (n : ℕ) where
 
   pub found_at : (es : List Named) (i : ℕ) → rises None es ≡ true → IsPlaceOf n es i → placed n None (slice_get es i) ≡ block_of n (reverse es)
   found_at es i h p = sym (at_place None None es i h p.within p.before p.behind) ∙ last_is n es []
+
+  not_less : (m : ℕ) → n ≤ m → nat_lt m n ≡ false
+  not_less m e = grind arith
+
+  equal_to : (m : ℕ) → nat_eq m n ≡ true → m ≡ n
+  equal_to m e = grind arith
+
+  over_all : (m : ℕ) (es : List Named) (k : ℕ) (d : Named) → rises (Some m) es ≡ true → k < length es → m < (get_or es k d).slot
+  over_all m [] k d h l = absurd (omega (arith, l))
+  over_all m (x ∷ xs) zero d h l = less m x.slot (both_true (nat_lt m x.slot) (rises (Some x.slot) xs) h).0
+  over_all m (x ∷ xs) (suc k) d h l =
+      let b = both_true (nat_lt m x.slot) (rises (Some x.slot) xs) h in
+      let over = less m x.slot b.0 in
+      let more = over_all x.slot xs k d b.1 (omega (arith, l)) in
+      omega (arith, over, more)
+
+  under_it : (m : ℕ) (es : List Named) (i : ℕ) → rises (Some m) es ≡ true → has_slot n (slice_get es i) ≡ true → m < n
+  under_it m [] i h q = cc
+  under_it m (x ∷ xs) zero h q =
+      let over = less m x.slot (both_true (nat_lt m x.slot) (rises (Some x.slot) xs) h).0 in
+      let same = equal_to x.slot q in
+      omega (arith, over, same)
+  under_it m (x ∷ xs) (suc i) h q =
+      let b = both_true (nat_lt m x.slot) (rises (Some x.slot) xs) h in
+      let over = less m x.slot b.0 in
+      let more = under_it x.slot xs i b.1 q in
+      omega (arith, over, more)
+
+  before_it : (o : Option ℕ) (es : List Named) (i j : ℕ) (d : Named) → rises o es ≡ true → has_slot n (slice_get es i) ≡ true → j < i → nat_lt (get_or es j d).slot n ≡ true
+  before_it o [] i j d h q lt = cc
+  before_it o (x ∷ xs) zero j d h q lt = absurd (omega (arith, lt))
+  before_it o (x ∷ xs) (suc i) zero d h q lt = is_less x.slot n (under_it x.slot xs i (both_true (is_over o x.slot) (rises (Some x.slot) xs) h).1 q)
+  before_it o (x ∷ xs) (suc i) (suc j) d h q lt = before_it (Some x.slot) xs i j d (both_true (is_over o x.slot) (rises (Some x.slot) xs) h).1 q (omega (arith, lt))
+
+  behind_it : (o : Option ℕ) (es : List Named) (i j : ℕ) (d : Named) → rises o es ≡ true → has_slot n (slice_get es i) ≡ true → i ≤ j → j < length es → nat_lt (get_or es j d).slot n ≡ false
+  behind_it o [] i j d h q le lt = cc
+  behind_it o (x ∷ xs) zero zero d h q le lt = let same = equal_to x.slot q in not_less x.slot (omega (arith, same))
+  behind_it o (x ∷ xs) zero (suc j) d h q le lt =
+      let same = equal_to x.slot q in
+      let over = over_all x.slot xs j d (both_true (is_over o x.slot) (rises (Some x.slot) xs) h).1 (omega (arith, lt)) in
+      not_less (get_or xs j d).slot (omega (arith, same, over))
+  behind_it o (x ∷ xs) (suc i) zero d h q le lt = absurd (omega (arith, le))
+  behind_it o (x ∷ xs) (suc i) (suc j) d h q le lt = behind_it (Some x.slot) xs i j d (both_true (is_over o x.slot) (rises (Some x.slot) xs) h).1 q (omega (arith, le)) (omega (arith, lt))
+
+  within_it : (es : List Named) (i : ℕ) → has_slot n (slice_get es i) ≡ true → i ≤ length es
+  within_it [] i q = cc
+  within_it (x ∷ xs) zero q = omega arith
+  within_it (x ∷ xs) (suc i) q = let l = within_it xs i q in omega (arith, l)
+
+  -- a place where the number stands is its place
+  pub place_here : (es : List Named) (i : ℕ) → rises None es ≡ true → has_slot n (slice_get es i) ≡ true → IsPlaceOf n es i
+  place_here es i h q = record {
+    within = within_it es i q;
+    before = λ k d l. before_it None es i k d h q l;
+    behind = λ k d l m. behind_it None es i k d h q l m;
+  }

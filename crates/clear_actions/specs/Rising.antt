@@ -1,5 +1,5 @@
 -- Slots whose numbers rise.
-use Rattle.std.specs.Prelude.{ℕ, ◌-◌, ◌≡◌, ◌≤◌, ◌<◌, nat_lt, slice_get, get_or, length, Bool, true, false, ◌&&◌, List, [], ◌∷◌, Option, Some, None}
+use Rattle.std.specs.Prelude.{ℕ, ◌-◌, ◌≡◌, ◌≤◌, ◌<◌, nat_eq, nat_lt, slice_get, get_or, length, Bool, true, false, ◌&&◌, List, [], ◌∷◌, Option, Some, None}
 use Rattle.oc_walk.specs.declared.run.Named.{Named}
 
 -- whether a number is greater than this one, if there is one
@@ -20,6 +20,11 @@ is_over_slot (Some e) n = nat_lt e.slot n
 -- whether a number is greater than that of the last of these slots
 abbrev pub stands_over : List Named → ℕ → Bool
 stands_over es n = is_over_slot (slice_get es (length es - 1)) n
+
+-- whether it is a slot with this number
+abbrev pub has_slot : ℕ → Option Named → Bool
+has_slot n None = false
+has_slot n (Some e) = nat_eq e.slot n
 
 -- before this place the slots' numbers are lower, and from there on they aren't
 pub record IsPlaceOf (n : ℕ) (es : List Named) (place : ℕ) : Type 0 where

@@ -1,11 +1,11 @@
 //! The slots that a call entered, which contracts see as their list, the newest last.
 //!
-//! A function's slots are numbered in the order of its text, so a call enters them in rising order, and a slot is found by
-//! halving. Of a tree whose slots aren't numbered so, each slot is looked at.
+//! A function's slots are numbered in the order of its text, so a call enters them in rising order, and a slot is found at once
+//! or by halving. Of a tree whose slots aren't numbered so, each slot is looked at.
 
-ghost use Rattle.std.specs.Prelude.{◌≡◌, true, [], ◌∷◌, ◌++◌, length, reverse, ◌&&◌, MatchOption, OnOk, OnErr, None};
+ghost use Rattle.std.specs.Prelude.{◌≡◌, true, [], ◌∷◌, ◌++◌, length, reverse, slice_get, ◌&&◌, MatchOption, OnOk, OnErr, None};
 ghost use Rattle.oc_walk.specs.Walking.{block_of};
-ghost use Rattle.clear_actions.specs.Rising.{rises, stands_over, IsPlaceOf};
+ghost use Rattle.clear_actions.specs.Rising.{rises, stands_over, has_slot, IsPlaceOf};
 
 use oc_values::Items;
 use oc_walk::Named;
@@ -62,11 +62,25 @@ fn find_each(slots: &[Named], slot: u64) -> Option<u64>
     found
 }
 
-/// How many slots have a lower number, where numbers rise.
+/// Whether the slot of this number stands at a place.
+fn is_at(slots: &[Named], place: usize, slot: u64) -> bool
+    ensures { result ≡ has_slot slot (slice_get slots.now place) }
+{
+    match slots.get(place) {
+        Some(named) => named.slot == slot,
+        None => false,
+    }
+}
+
+/// How many slots have a lower number, where numbers rise. Where each lower number is entered too, that is the number itself.
 fn place_of(slots: &[Named], slot: u64) -> usize
     requires { rises None slots.now ≡ true }
     ensures { IsPlaceOf slot slots.now result }
 {
+    let place = slot as usize;
+    if is_at(slots, place, slot) {
+        return place;
+    }
     slots.partition_point(|named| named.slot < slot)
 }
 

@@ -10,7 +10,7 @@ pub mod cells;
 pub mod copying;
 pub mod entered;
 pub mod exchange;
-mod kinds;
+pub mod kinds;
 pub mod machine;
 pub mod operations;
 pub mod places;

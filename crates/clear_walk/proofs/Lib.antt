@@ -1,6 +1,7 @@
 pub mod Weight
 pub mod Falls
 pub mod Walked
+pub mod Glancing
 pub mod Actions
 pub mod Forms
 pub mod Bodies

@@ -25,6 +25,7 @@ use clear_actions::operations::{operate_binary, operate_unary, test, turn};
 use clear_actions::places::{compare_places, follow};
 use clear_actions::variables::{begin_call, close_slots, end_call, find_slot, spend};
 use clear_actions::{Fault, Machine, perform};
+use clear_glances::{glance, glance_place};
 use oc_cells::{Address, CType, TrapKind};
 use oc_source::Spot;
 use oc_typed::{
@@ -33,6 +34,9 @@ use oc_typed::{
 };
 use oc_values::{BinaryOp, Boxed, IntKind, Items, OneOp};
 use oc_walk::{Flow, Value};
+
+/// How many nodes deep a glance looks before a node is walked.
+const GLANCE: u32 = 4;
 
 /// The value of an expression.
 #[cycle(run)]
@@ -44,6 +48,9 @@ fn run_expr<'t>(
 ) -> Result<Value<i128>, Fault>
     ensures { RunsExpr (around frame.now at) e.now m.old result m.new }
 {
+    if let Some(n) = glance(m, GLANCE, e) {
+        return Ok(Value::Int(kind_of(&e.ty), i128::from(n)));
+    }
     match &e.node {
         TExprNode::Number(n) => Ok(Value::Int(kind_of(&e.ty), *n)),
         TExprNode::NullPointer => Ok(Value::Pointer(Address::Null)),
@@ -423,6 +430,9 @@ fn run_place<'t>(
 ) -> Result<Address, Fault>
     ensures { RunsPlace (around frame.now at) place.now m.old result m.new }
 {
+    if let Some(to) = glance_place(m, GLANCE, place) {
+        return Ok(to);
+    }
     match &place.node {
         TPlaceNode::Slot(n) => find_slot(m, place.spot, *n),
         TPlaceNode::Deref(pointer) => run_deref(m, frame, at, place, pointer.get()),

@@ -1,5 +1,5 @@
 -- What a list holds weighs at most as much as the list.
-use Rattle.std.proofs.Common.{◌≡◌, ◌≤◌, ◌<◌, ℕ, zero, suc, ◌+◌, List, [], ◌∷◌, arith, subst, sym, refl, length}
+use Rattle.std.proofs.Common.{◌≡◌, ◌≤◌, ◌<◌, ℕ, zero, suc, List, [], ◌∷◌, arith, subst, sym, length}
 use Rattle.std.specs.Prelude.{map, max, get_or}
 use Rattle.frozen_rules.proofs.Weight.{greatest}
 

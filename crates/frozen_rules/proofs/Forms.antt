@@ -1,12 +1,11 @@
 -- Types without their arrays, and the frozen form of a type.
-use Rattle.std.proofs.Common.{ℕ, zero, suc, ◌≡◌, refl, sym, ap, ◌∙◌, List, [], ◌∷◌, ◌++◌, Bool, true, false, nat_eq, arith, take}
+use Rattle.std.proofs.Common.{ℕ, zero, suc, ◌≡◌, refl, sym, ap, ◌∙◌, List, [], ◌∷◌, ◌++◌, Bool, true, false, nat_eq, arith}
 use Rattle.std.specs.Prelude.{◌&&◌, ◌||◌, not}
 use Rattle.oc_cells.specs.declared.types.CType.{CType, Int, Pointer', Array', Struct, Nothing, Row_of-CType, end_of-CType, more_of-CType}
-use Rattle.oc_cells.specs.declared.types.FieldType.{FieldType}
 use Rattle.oc_cells.specs.declared.types.CType.TheBlock.{hidden-the_row-CType-0}
 use denote.Hole.Carrier.{hidden}
-use Rattle.oc_cells.specs.Types.{holds_public, holds_public_row, freeze, same, same_row, alike, is_pointer, is_frozen_pointer, target}
-use Rattle.oc_cells.specs.Layout.{leaves, leaves_row, repeated, field_leaves}
+use Rattle.oc_cells.specs.Types.{holds_public, holds_public_row, freeze, same, alike, is_pointer, is_frozen_pointer, target}
+use Rattle.oc_cells.specs.Layout.{leaves, leaves_row, repeated}
 use Rattle.oc_typing.specs.Rules.{is_null, is_nothing}
 use Rattle.scope_rules.specs.Frozen.{is_loose, some_loose, type_here, unfreezes, loses}
 use Rattle.oc_typing.specs.Typed.{Context}

@@ -1,5 +1,5 @@
 -- Loops over declared variables, statements and functions: the next one, and the end.
-use Rattle.std.proofs.Common.{ℕ, ◌+◌, ◌<◌, ◌≤◌, ◌≡◌, List, [], ◌∷◌, ◌++◌, length, drop, get_or, Option, Some, refl, ap, sym, ◌∙◌, arith}
+use Rattle.std.proofs.Common.{ℕ, ◌+◌, ◌<◌, ◌≤◌, ◌≡◌, List, [], ◌∷◌, ◌++◌, length, drop, get_or, Option, Some, ap, sym, ◌∙◌}
 use Rattle.std.specs.Prelude.{slice_get}
 use Rattle.std.proofs.lemmas.List.{at_drop_more, at_drop_all}
 use Rattle.oc_cells.specs.declared.types.StructType.{StructType}
@@ -9,7 +9,7 @@ use Rattle.oc_typed.specs.declared.typed.TypedFunction.{TypedFunction}
 use Rattle.oc_typing.specs.Typed.{Context}
 use Rattle.scope_rules.specs.Frozen.{Facts}
 use Rattle.scope_rules.specs.InScope.{slot_type}
-use Rattle.scope_rules.specs.FirstFault.{Visit, visits_coming, visits_declares}
+use Rattle.scope_rules.specs.FirstFault.{visits_coming, visits_declares}
 use Rattle.numbered_scopes.specs.Numbered.{last_declared, last_stmt, numbered_stmts, numbered_function, numbered_functions}
 use Rattle.frozen_rules.specs.Lists.{numbered_whole, last_all}
 

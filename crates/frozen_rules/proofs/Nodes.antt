@@ -1,13 +1,13 @@
 -- What is told of a node, from what is told of its parts.
-use Rattle.std.proofs.Common.{ℕ, ◌≡◌, List, [], ◌∷◌, ◌++◌, Option, Some, None, Bool, true, false, refl, ap, sym, ◌∙◌}
-use Rattle.std.specs.Prelude.{◌||◌, not, slice_get, if◌then◌else◌, Result}
+use Rattle.std.proofs.Common.{ℕ, ◌≡◌, List, [], ◌++◌, Option, Some, Bool, true, false, refl, ap, sym, ◌∙◌}
+use Rattle.std.specs.Prelude.{◌||◌, not, slice_get, Result}
 use Rattle.oc_values.specs.declared.integers.BinaryOp.{BinaryOp}
 use Rattle.oc_values.specs.declared.integers.OneOp.{OneOp}
 use Rattle.oc_cells.specs.declared.types.CType.{CType}
 use Rattle.oc_source.specs.declared.spot.Spot.{Spot}
 use Rattle.oc_typed.specs.declared.typed.TExpr.{TExpr}
 use Rattle.oc_typed.specs.declared.typed.TPlace.{TPlace}
-use Rattle.oc_typed.specs.declared.typed.TExprNode.{TExprNode, Read, AddressOf, Decay, Unary, Binary, PointerStep, PointerSame, Logic, Choose, Assign, Update, Convert, Call, Builtin as Known}
+use Rattle.oc_typed.specs.declared.typed.TExprNode.{TExprNode, Unary, Binary, PointerStep, PointerSame, Logic, Choose, Assign, Update, Convert, Call, Builtin as Known}
 use Rattle.oc_typed.specs.declared.typed.TPlaceNode.{TPlaceNode, Deref, Index, Field}
 use Rattle.oc_typed.specs.declared.typed.Builtin.{Builtin}
 use Rattle.oc_values.specs.declared.integers.IntKind.{IntKind}
@@ -18,7 +18,7 @@ use Rattle.scope_rules.specs.declared.rules.ScopeRule.{ScopeRule}
 use Rattle.scope_rules.specs.declared.rules.ScopeRule.TheVariants.{F2, F3}
 use Rattle.scope_rules.specs.declared.rules.ScopeFault.{ScopeFault}
 use Rattle.scope_rules.specs.Frozen.{Facts, is_kept, is_marked}
-use Rattle.scope_rules.specs.InScope.{params_of, comings, first_unfrozen, unfrozen}
+use Rattle.scope_rules.specs.InScope.{params_of, comings}
 use Rattle.scope_rules.specs.FirstFault.{Visit, visit, writing, in_order, visits, visits_place}
 use Rattle.frozen_rules.specs.Scopes.{Judges}
 use Rattle.frozen_rules.specs.Lists.{whole, visits_arg, visits_list, visits_filling, visit_write, types_in}

@@ -1,12 +1,12 @@
 -- The visits at each form of a statement, and what is told of it, from what is told of its parts.
-use Rattle.std.proofs.Common.{ℕ, ◌≡◌, List, [], ◌∷◌, ◌++◌, Option, Some, None, Bool, true, false, refl, ap, sym, ◌∙◌}
+use Rattle.std.proofs.Common.{ℕ, ◌≡◌, List, [], ◌∷◌, ◌++◌, Option, Some, None, refl, ap, sym, ◌∙◌}
 use Rattle.std.specs.Prelude.{not, Result}
 use Rattle.oc_source.specs.declared.spot.Spot.{Spot}
 use Rattle.oc_typed.specs.declared.typed.TExpr.{TExpr}
 use Rattle.oc_typed.specs.declared.typed.TDeclared.{TDeclared}
 use Rattle.oc_typed.specs.declared.typed.TForInit.{TForInit}
 use Rattle.oc_typed.specs.declared.typed.TStmt.{TStmt}
-use Rattle.oc_typed.specs.declared.typed.TStmtNode.{TStmtNode, Declare, Express, Block, If, OblivIf, Always, While, For, Return, Break, Continue, Empty, Row_of-TStmt}
+use Rattle.oc_typed.specs.declared.typed.TStmtNode.{TStmtNode, Declare, Express, Block, If, OblivIf, Always, While, For, Return, Break, Continue, Row_of-TStmt}
 use Rattle.oc_typed.specs.declared.typed.TStmtNode.TheBlock.{hidden-the_row-TStmt-0, hidden-the_row-TStmt-1, back-the_row-TStmt}
 use Rattle.oc_typing.specs.Typed.{Context}
 use Rattle.scope_rules.specs.declared.rules.ScopeRule.TheVariants.{F4}

@@ -1,5 +1,5 @@
 -- A whole program: what the check of its functions answers, and when its rules are kept.
-use Rattle.std.proofs.Common.{◌≡◌, ◌∙◌, sym, ap, subst, refl, Bool, true, false, Option, Some, None, Ok, Err}
+use Rattle.std.proofs.Common.{◌≡◌, ◌∙◌, sym, ap, subst, refl, true, false, Option, Some, None, Ok, Err}
 use Rattle.std.specs.Prelude.{◌↔◌, Result, IsOk, IfOk, IfErr, is_none}
 use Rattle.std.proofs.lemmas.Bool.{false≢true}
 use Rattle.oc_typing.specs.Tree.{TypedTree, is_well_typed}

@@ -1,6 +1,6 @@
 -- Facts of structs, of which each stands on those of the structs before it.
-use Rattle.std.proofs.Common.{ℕ, zero, suc, ◌<◌, ◌≤◌, ◌+◌, length, take, drop, get_or, ◌≡◌, refl, sym, ap, ◌∙◌, List, [], ◌∷◌, ◌++◌, Bool, true, false, Option, Some, None, arith}
-use Rattle.std.specs.Prelude.{◌||◌, slice_get, slice_index_or}
+use Rattle.std.proofs.Common.{ℕ, zero, suc, ◌<◌, ◌≤◌, ◌+◌, take, ◌≡◌, refl, sym, ap, ◌∙◌, List, [], ◌∷◌, ◌++◌, Bool, false, Option, Some, None, arith}
+use Rattle.std.specs.Prelude.{slice_get, slice_index_or}
 use Rattle.std.proofs.lemmas.List.{append_assoc, append-nil}
 use Rattle.oc_cells.specs.declared.types.CType.{CType}
 use Rattle.oc_cells.specs.declared.types.StructType.{StructType}

@@ -1,5 +1,5 @@
 -- A loop that asks whether a test holds of one of a list.
-use Rattle.std.proofs.Common.{ℕ, ◌<◌, ◌≤◌, ◌+◌, length, drop, get_or, ◌≡◌, refl, sym, ap, ◌∙◌, List, [], ◌∷◌, Bool, true, false, arith}
+use Rattle.std.proofs.Common.{ℕ, ◌<◌, ◌≤◌, ◌+◌, length, drop, get_or, ◌≡◌, sym, ap, ◌∙◌, List, [], ◌∷◌, Bool, true, false}
 use Rattle.std.specs.Prelude.{◌||◌}
 use Rattle.std.proofs.lemmas.List.{at_drop_more, at_drop_all}
 

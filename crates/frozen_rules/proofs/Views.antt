@@ -1,5 +1,5 @@
 -- The visits at each form of a node, and what is frozen there, as the code opens it.
-use Rattle.std.proofs.Common.{ℕ, ◌≡◌, List, [], ◌∷◌, ◌++◌, Option, Some, None, Bool, true, false, refl, ap, sym, ◌∙◌}
+use Rattle.std.proofs.Common.{ℕ, ◌≡◌, List, [], ◌∷◌, ◌++◌, Some, Bool, refl, ap, ◌∙◌}
 use Rattle.std.specs.Prelude.{◌||◌, not, slice_get}
 use Rattle.oc_values.specs.declared.integers.BinaryOp.{BinaryOp}
 use Rattle.oc_values.specs.declared.integers.OneOp.{OneOp}
@@ -8,16 +8,16 @@ use Rattle.oc_cells.specs.Types.{is_frozen_pointer}
 use Rattle.oc_source.specs.declared.spot.Spot.{Spot}
 use Rattle.oc_typed.specs.declared.typed.TExpr.{TExpr}
 use Rattle.oc_typed.specs.declared.typed.TPlace.{TPlace}
-use Rattle.oc_typed.specs.declared.typed.TExprNode.{Read, AddressOf, Decay, Unary, Binary, PointerStep, PointerSame, Logic, Choose, Assign, Update, Convert, Call, Builtin as Known, Row_of-TExpr}
+use Rattle.oc_typed.specs.declared.typed.TExprNode.{Unary, Binary, PointerStep, PointerSame, Logic, Choose, Assign, Update, Convert, Call, Builtin as Known, Row_of-TExpr}
 use Rattle.oc_typed.specs.declared.typed.TExprNode.TheBlock.{hidden-the_row-TExpr-0, hidden-the_row-TExpr-1, hidden-the_row-TPlace-2, back-the_row-TExpr}
 use Rattle.oc_typed.specs.declared.typed.TPlaceNode.{Deref, Index, Field}
 use Rattle.oc_typed.specs.declared.typed.Builtin.{Builtin}
 use Rattle.oc_typed.specs.Static.{types_of}
 use Rattle.oc_typing.specs.Typed.{Context}
 use Rattle.scope_rules.specs.declared.rules.ScopeRule.TheVariants.{F2, F3}
-use Rattle.scope_rules.specs.Frozen.{Facts, type_here, is_frozen, from_frozen, loses, is_kept, is_marked}
+use Rattle.scope_rules.specs.Frozen.{Facts, type_here, is_frozen, from_frozen, loses, is_marked}
 use Rattle.scope_rules.specs.InScope.{params_of, comings}
-use Rattle.scope_rules.specs.FirstFault.{Visit, visit, writing, in_order, visits, visits_place, visits_all}
+use Rattle.scope_rules.specs.FirstFault.{visit, in_order, visits, visits_place, visits_all}
 use Rattle.sqlite_items.specs.formers.items.Items.{the_former}
 use denote.Hole.Carrier.{hidden}
 use mathlib.Core.Former.{this, list_count, children}

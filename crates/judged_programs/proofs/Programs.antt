@@ -1,8 +1,8 @@
 -- Programs: what the functions of structs, headings and programs answer is what their typing and their first faults say.
 use Rattle.std.proofs.Common.{ℕ, ◌+◌, ◌≡◌, List, [], ◌∷◌, ◌++◌, Option, Some, None, Ok, Err, length, refl, sym, ap, ◌∙◌, subst, Bool, true, false, inl, inr, ◌⊎◌, append-nil, append_assoc}
-use Rattle.std.specs.Prelude.{not, take, is_none, is_some, ◌&&◌, nat_le, nat_lt}
+use Rattle.std.specs.Prelude.{not, take, is_some}
 use Rattle.oc_source.specs.declared.spot.Spot.{Spot}
-use Rattle.oc_cells.specs.declared.types.CType.{CType, Nothing}
+use Rattle.oc_cells.specs.declared.types.CType.{CType}
 use Rattle.oc_cells.specs.declared.types.FieldType.{FieldType}
 use Rattle.oc_cells.specs.declared.types.SlotType.{SlotType}
 use Rattle.oc_cells.specs.declared.types.StructType.{StructType}
@@ -18,25 +18,22 @@ use Rattle.oc_typed.specs.declared.typed.TypedFunction.{TypedFunction}
 use Rattle.oc_typing.specs.Tree.{TypedTree}
 use Rattle.oc_cells.specs.Types.{is_struct}
 use Rattle.oc_cells.specs.Layout.{struct_cells, field_cells}
-use Rattle.oc_typing.specs.Rules.{field_depth}
 use Rattle.type_rules.specs.declared.judging.TypeRule.{TypeRule}
 use Rattle.type_rules.specs.declared.judging.TypeRule.TheVariants.{T2, T10, T11}
 use Rattle.type_rules.specs.declared.judging.Refusal.{Refusal}
 use Rattle.type_rules.specs.declared.judging.Heading.{Heading}
-use Rattle.type_rules.specs.Judging.{Judged, next, breaks, needs}
+use Rattle.type_rules.specs.Judging.{Judged, next, needs}
 use Rattle.type_rules.specs.Lookup.{Lookup}
-use Rattle.type_rules.specs.Calls.{own_call}
-use Rattle.type_rules.specs.Written.{type_name, field_type, param_of, more_stars, has_name, cells_of, depths_after, with_struct, may_stand, at_function, bodies_of, fields, struct_type, structs_from, result_type, params, heading, headings_from}
-use Rattle.type_rules.specs.StatementRules.{Scope, Walk, bind, pure, stmt}
-use Rattle.type_rules.specs.ProgramRules.{with_params, entry_from, entry, first_lookup, statements, body, function, functions_from, typed_program}
-use Rattle.type_rules.specs.Moves.{moves, Done, FirstFault}
-use Rattle.type_rules.proofs.Laws.{absurd, parted, broken, then_ok, then_err, fine_back, not_both, from_err}
+use Rattle.type_rules.specs.Written.{type_name, field_type, param_of, more_stars, has_name, cells_of, with_struct, at_function, bodies_of, fields, struct_type, structs_from, result_type, params, heading, headings_from}
+use Rattle.type_rules.specs.StatementRules.{Scope, bind, pure, stmt}
+use Rattle.type_rules.specs.ProgramRules.{entry_from, entry, first_lookup, statements, body, function, functions_from, typed_program}
+use Rattle.type_rules.specs.Moves.{Done}
+use Rattle.type_rules.proofs.Laws.{absurd, parted, broken, then_ok, then_err, fine_back, not_both}
 use Rattle.type_rules.proofs.Statements.{fault_back, never, walk_bad, faults_stmt}
 use Rattle.type_rules.proofs.Unique.{only_stmt}
-use Rattle.judged_programs.specs.StatementTyping.{StatementTyping, BodyTyping}
-use Rattle.judged_programs.specs.ProgramTyping.{FieldsTyping, is_small, StructTyping, StructsTyping, ResultTyping, ParamsTyping, HeadingTyping, stands_after, HeadingsTyping, first_scope, FunctionTyping, MaybeTyping, FunctionsTyping, with_bodies, ProgramTyping}
+use Rattle.judged_programs.specs.ProgramTyping.{FieldsTyping, is_small, StructTyping, StructsTyping, ResultTyping, ParamsTyping, HeadingTyping, stands_after, HeadingsTyping, first_scope, MaybeTyping, FunctionsTyping, with_bodies, ProgramTyping}
 use Rattle.judged_programs.specs.ProgramFault.{at, FieldsFault, StructFault, StructsFault, ResultFault, ParamsFault, HeadingFault, HeadingsFault, BodyFault, MaybeFault, FunctionsFault, BodiesFault, ProgramFault}
-use Rattle.judged_programs.proofs.Statements.{met, meets, walk_ok, statement_typed, statement_is, body_typed, body_is}
+use Rattle.judged_programs.proofs.Statements.{met, meets, statement_typed, statement_is, body_typed, body_is}
 
 -- one of two, either way
 cases : {P Q R : Type 0} → P ⊎ Q → (P → R) → (Q → R) → R

@@ -1,5 +1,5 @@
 -- Statements: what the function of a statement gives is what its typing says.
-use Rattle.std.proofs.Common.{ℕ, ◌≡◌, List, [], ◌∷◌, Option, Some, None, Ok, Err, length, refl, sym, ap, ◌∙◌, subst, Bool, true, false}
+use Rattle.std.proofs.Common.{◌≡◌, List, [], ◌∷◌, Option, Some, None, Ok, length, refl, sym, ap, ◌∙◌, subst, Bool, true, false}
 use Rattle.std.specs.Prelude.{not}
 use Rattle.oc_values.specs.declared.integers.IntKind.TheVariants.{Bool as KBool}
 use Rattle.oc_source.specs.declared.spot.Spot.{Spot}
@@ -19,10 +19,9 @@ use Rattle.oc_typed.specs.declared.typed.TForInit.TheVariants as init
 use Rattle.oc_cells.specs.Types.{is_integer}
 use Rattle.type_rules.specs.declared.judging.TypeRule.{TypeRule}
 use Rattle.type_rules.specs.declared.judging.TypeRule.TheVariants.{T2, T3, T12}
-use Rattle.type_rules.specs.declared.judging.Refusal.{Refusal}
 use Rattle.type_rules.specs.declared.judging.Found.{Found}
 use Rattle.type_rules.specs.Judging.{Judged, next, needs, public_integer}
-use Rattle.type_rules.specs.Lookup.{Lookup, value_of, valued, convert, converted}
+use Rattle.type_rules.specs.Lookup.{Lookup, value_of, convert, converted}
 use Rattle.type_rules.specs.Written.{field_type}
 use Rattle.type_rules.specs.Rules.{expr, typed_value, typed_alone}
 use Rattle.type_rules.specs.StatementRules.{Scope, Walk, bind, pure, ask, at, scoped, add, is_taken, value_in, alone_in, optional_in, initial, declare, declare_all, header, condition, returned, made, name_mark, stmt, stmts, part, other}

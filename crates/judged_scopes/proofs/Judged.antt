@@ -1,5 +1,5 @@
 -- A tree keeps the rules of scopes exactly where each of its visits does.
-use Rattle.std.proofs.Common.{ℕ, zero, suc, ◌≡◌, List, [], ◌∷◌, ◌++◌, refl, sym, subst, Bool, true, false, Option, Some, None}
+use Rattle.std.proofs.Common.{ℕ, zero, suc, ◌≡◌, List, [], ◌∷◌, refl, subst, Option, Some, None}
 use Rattle.std.specs.Prelude.{not, ◌||◌, slice_get}
 use Rattle.std.proofs.lemmas.Option.{none-some, same_Some}
 use Rattle.oc_source.specs.declared.spot.Spot.{Spot}
@@ -17,7 +17,7 @@ use Rattle.oc_typed.specs.declared.typed.TypedFunction.{TypedFunction}
 use Rattle.oc_typed.specs.Static.{types_of, spot_of}
 use Rattle.oc_typed.specs.Visible.{after_node, after_header, after_params}
 use Rattle.oc_typing.specs.Typed.{Context, context, param_types}
-use Rattle.scope_rules.specs.declared.rules.ScopeRule.TheVariants.{F1, F2, F3, F4, F5}
+use Rattle.scope_rules.specs.declared.rules.ScopeRule.TheVariants.{F2, F3, F4}
 use Rattle.scope_rules.specs.Frozen.{Facts, of_body, of_part, of_always, in_loop, from_frozen, loses, loses_one, is_kept, is_marked, leaves_part}
 use Rattle.scope_rules.specs.InScope.{params_of, comings, slot_type, ExprInScope, PlaceInScope, BaseInScope, OneInScope, AllInScope, MaybeInScope, ComesInScope, DeclaresInScope, HeaderInScope, StmtInScope, PartInScope, RowsInScope, OtherInScope, StmtsInScope, FunctionInScope}
 use Rattle.scope_rules.specs.FirstFault.{visit, writing, visits, visits_place, visits_base, visits_one, visits_all, visits_maybe, visits_coming, visits_declares, visits_header, visits_stmt, visits_part, visits_rows, visits_other, visits_stmts, visits_function, visits_functions, first_fault}

@@ -1,7 +1,6 @@
 -- The rules of scopes as a relation and as a first fault are one.
-use Rattle.std.specs.Prelude.{◌≡◌, Option, Some, None}
+use Rattle.std.specs.Prelude.{◌≡◌, None}
 use Rattle.oc_typing.specs.Tree.{TypedTree}
-use Rattle.scope_rules.specs.declared.rules.ScopeFault.{ScopeFault}
 use Rattle.scope_rules.specs.InScope.{InScope}
 use Rattle.scope_rules.specs.FirstFault.{first_fault}
 

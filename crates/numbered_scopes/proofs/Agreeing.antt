@@ -1,5 +1,5 @@
 -- Facts that agree on what is visible give the same visits of an expression.
-use Rattle.std.proofs.Common.{ℕ, ◌≡◌, List, [], ◌∷◌, ◌++◌, refl, sym, ap, ◌∙◌, Bool, true, false, Option, Some, None}
+use Rattle.std.proofs.Common.{ℕ, ◌≡◌, List, [], ◌∷◌, ◌++◌, refl, ap, ◌∙◌, Bool, true, false, Some}
 use Rattle.std.specs.Prelude.{◌&&◌, ◌||◌, not, slice_get}
 use Rattle.oc_source.specs.declared.spot.Spot.{Spot}
 use Rattle.oc_cells.specs.declared.types.CType.{CType}
@@ -14,7 +14,7 @@ use Rattle.sound_runs.proofs.Bools.{first, second}
 use Rattle.scope_rules.specs.declared.rules.ScopeRule.TheVariants.{F2, F3}
 use Rattle.scope_rules.specs.Frozen.{Facts, declared_frozen, type_here, is_frozen, is_frozen_one, from_frozen, from_frozen_one, leads_frozen, loses, loses_one, is_kept, is_marked}
 use Rattle.scope_rules.specs.InScope.{params_of, comings}
-use Rattle.scope_rules.specs.FirstFault.{Visit, visit, writing, in_order, visits, visits_place, visits_base, visits_one, visits_all, visits_maybe, visits_coming}
+use Rattle.scope_rules.specs.FirstFault.{Visit, visit, writing, in_order, visits, visits_place, visits_base, visits_one, visits_all, visits_coming}
 
 -- facts that differ at most in variables that aren't visible
 pub record Agree (vis : List ℕ) (w v : Facts) : Type 0 where

@@ -1,9 +1,8 @@
 -- The visits of statements are the same where one number stands for the variables outside.
-use Rattle.std.proofs.Common.{ℕ, ◌≤◌, ◌≡◌, List, [], ◌∷◌, ◌++◌, length, map, take, refl, sym, ap, ◌∙◌, subst, Bool, true, false, Option, Some, None, nat_le, arith}
-use Rattle.std.specs.Prelude.{◌&&◌, ◌||◌, not, slice_get}
+use Rattle.std.proofs.Common.{ℕ, ◌≤◌, ◌≡◌, List, [], ◌∷◌, length, map, take, refl, sym, ap, ◌∙◌, subst, Bool, true, false, Option, Some, None, arith}
+use Rattle.std.specs.Prelude.{◌&&◌, not, slice_get}
 use Rattle.std.proofs.lemmas.List.{length-map, length-take}
 use Rattle.oc_source.specs.declared.spot.Spot.{Spot}
-use Rattle.oc_cells.specs.declared.types.CType.{CType, Int}
 use Rattle.oc_cells.specs.declared.types.SlotType.{SlotType}
 use Rattle.oc_cells.specs.declared.types.StructType.{StructType}
 use Rattle.oc_cells.specs.Types.{same}
@@ -14,19 +13,18 @@ use Rattle.oc_typed.specs.declared.typed.TForInit.TheVariants.{Nothing as NoInit
 use Rattle.oc_typed.specs.declared.typed.TStmt.{TStmt}
 use Rattle.oc_typed.specs.declared.typed.TStmtNode.{TStmtNode, Declare, Express, Block', If', OblivIf', Always', While', For', Return, Break, Continue, Empty, Row_of-TStmt, end_of-TStmt, more_of-TStmt, Held-TStmtNode-If-2, None', Some'}
 use Rattle.oc_typed.specs.declared.typed.TypedFunction.{TypedFunction}
-use Rattle.oc_typed.specs.Visible.{after_all, after_node, after_header, after_params}
-use Rattle.oc_typing.specs.Tree.{TypedTree}
+use Rattle.oc_typed.specs.Visible.{after_node, after_header, after_params}
 use Rattle.oc_typing.specs.Rules.{all}
-use Rattle.oc_typing.specs.Typed.{Context, context, param_types, slots_of, slots_of_header, slots_in, slots_in_part, slots_in_rows, slots_in_other, slots_in_all, alone, initial, declares, header, maybe, condition, valued, back, stmt, part, rows, other, stmts, function, is_typed}
+use Rattle.oc_typing.specs.Typed.{Context, context, param_types, slots_of, slots_of_header, slots_in, slots_in_part, slots_in_rows, slots_in_other, slots_in_all, alone, initial, declares, header, maybe, condition, valued, back, stmt, part, rows, other, stmts, function}
 use Rattle.sound_runs.proofs.Bools.{first, second, never}
 use Rattle.scope_rules.specs.declared.rules.ScopeRule.TheVariants.{F4}
 use Rattle.scope_rules.specs.Frozen.{Facts, of_body, of_part, of_always, in_loop, leaves_part}
 use Rattle.scope_rules.specs.InScope.{slot_type}
 use Rattle.scope_rules.specs.FirstFault.{visit, visits, visits_maybe, visits_coming, visits_declares, visits_header, visits_stmt, visits_part, visits_rows, visits_other, visits_stmts, visits_function, visits_functions, first_broken, first_fault}
-use Rattle.numbered_scopes.specs.Numbered.{of_part_after, last_declared, last_header, last_stmt, last_part, last_rows, last_other, numbered_stmt, numbered_part, numbered_rows, numbered_other, numbered_stmts, last_of, numbered_function, numbered_functions, numbered_fault}
+use Rattle.numbered_scopes.specs.Numbered.{of_part_after, last_header, last_stmt, last_part, last_rows, last_other, numbered_stmt, numbered_part, numbered_rows, numbered_other, numbered_stmts, last_of, numbered_function, numbered_functions, numbered_fault}
 use Rattle.numbered_scopes.specs.Laws.{SlotsAreNumbered}
-use Rattle.numbered_scopes.proofs.Agreeing.{both, visits_same, alone_same, coming_same}
-use Rattle.numbered_scopes.proofs.Numbers.{Counted, counted_of, counted_parts, counted_rises, Reaches, reaches_named, reaches_declared, reaches_header, Before, before_next, before_later, before_part, before_loop, before_always, before_named, before_declared, before_header, before_body}
+use Rattle.numbered_scopes.proofs.Agreeing.{both, alone_same, coming_same}
+use Rattle.numbered_scopes.proofs.Numbers.{Counted, counted_of, counted_parts, counted_rises, Reaches, reaches_named, reaches_declared, reaches_header, Before, before_later, before_part, before_loop, before_always, before_named, before_declared, before_header, before_body}
 
 module _ (g : Context) where
   initial_same : (vis : List ℕ) (w v : Facts) (last : Option ℕ) (m : ℕ) → Before vis w v last m → (s : Option SlotType) (o : Option TExpr) → initial g vis s o ≡ true

@@ -1,6 +1,6 @@
 -- Slots in the order of the text: what is visible, what is outside, and the last one.
-use Rattle.std.proofs.Common.{ℕ, zero, suc, ◌+◌, ◌<◌, ◌≤◌, ◌≡◌, List, [], ◌∷◌, ◌++◌, length, refl, sym, ap, ◌∙◌, subst, Bool, true, false, Option, Some, None, nat_eq, nat_le, nat_lt, arith}
-use Rattle.std.specs.Prelude.{◌&&◌, ◌||◌}
+use Rattle.std.proofs.Common.{ℕ, zero, suc, ◌+◌, ◌<◌, ◌≤◌, ◌≡◌, List, [], ◌∷◌, ◌++◌, length, refl, sym, ◌∙◌, subst, Bool, true, false, Option, Some, nat_eq, nat_lt, arith}
+use Rattle.std.specs.Prelude.{◌||◌}
 use Rattle.oc_cells.specs.declared.types.CType.{CType}
 use Rattle.oc_typed.specs.declared.typed.TDeclared.{TDeclared}
 use Rattle.oc_typed.specs.declared.typed.TForInit.{TForInit}

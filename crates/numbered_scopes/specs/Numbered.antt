@@ -1,10 +1,10 @@
 -- The visits of the rules of scopes, where the last slot before a part of an `obliv if` stands for all variables outside of it.
-use Rattle.std.specs.Prelude.{ℕ, zero, suc, nat_le, List, [], ◌∷◌, ◌++◌, Bool, true, false, not, Option, Some, None, slice_get}
+use Rattle.std.specs.Prelude.{ℕ, zero, suc, nat_le, List, [], ◌∷◌, ◌++◌, Bool, true, false, not, Option, Some, None}
 use Rattle.oc_source.specs.declared.spot.Spot.{Spot}
 use Rattle.oc_cells.specs.declared.types.StructType.{StructType}
 use Rattle.oc_typed.specs.declared.typed.TDeclared.{TDeclared}
 use Rattle.oc_typed.specs.declared.typed.TForInit.{TForInit}
-use Rattle.oc_typed.specs.declared.typed.TForInit.TheVariants.{Nothing as NoInit, Declare as InitDeclare, Express as InitExpress}
+use Rattle.oc_typed.specs.declared.typed.TForInit.TheVariants.{Declare as InitDeclare}
 use Rattle.oc_typed.specs.declared.typed.TStmt.{TStmt}
 use Rattle.oc_typed.specs.declared.typed.TStmtNode.{TStmtNode, Declare, Express, Block', If', OblivIf', Always', While', For', Return, Break, Continue, Empty, Row_of-TStmt, end_of-TStmt, more_of-TStmt, Held-TStmtNode-If-2, None', Some'}
 use Rattle.oc_typed.specs.declared.typed.TypedFunction.{TypedFunction}

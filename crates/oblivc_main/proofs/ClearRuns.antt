@@ -1,8 +1,7 @@
 -- Reading the files of `clear`, one after another, and running the program.
-use Rattle.std.proofs.Common.{ℕ, ◌≡◌, ◌≤◌, ℤ, List, [], ◌∷◌, length, take, Option, Some, None, Result, Ok, Err, refl, sym, ap, subst, inl, inr}
+use Rattle.std.proofs.Common.{ℕ, ◌≡◌, ◌≤◌, ℤ, List, [], ◌∷◌, length, take, Option, Some, None, Result, Ok, Err, refl, sym, subst, inl, inr}
 use Rattle.std.specs.Prelude.{◌⊎◌}
 use Rattle.std.specs.List.{AllZip}
-use Rattle.oc_typing.specs.declared.program.Typed.{Typed}
 use Rattle.oc_walk.specs.declared.run.ShownItem.{ShownItem}
 use Rattle.oc_walk.specs.declared.run.Outcome.{Outcome}
 use Rattle.oc_meanings.specs.Clear.{Clear}
@@ -15,8 +14,8 @@ use Rattle.oblivcc_commands.specs.Views.{clear_of}
 use Rattle.oblivcc_commands.specs.declared.asked.ClearWords.{ClearWords}
 use Rattle.oblivcc_commands.specs.declared.asked.Asked.TheVariants.{Clear as ClearAsk}
 use Rattle.oblivc_main.specs.Reading.{Told, Files}
-use Rattle.oblivc_main.specs.Forms.{Content, source, source_content, words}
-use Rattle.oblivc_main.specs.Steps.{ReadStep, Takes, Reads, Fails, StopsAt, source_step, input_step}
+use Rattle.oblivc_main.specs.Forms.{Content, source, words}
+use Rattle.oblivc_main.specs.Steps.{ReadStep, Takes, Fails, StopsAt, source_step, input_step}
 use Rattle.oblivc_main.specs.Shown.{shown}
 use Rattle.oblivc_main.specs.Clearing.{setup_of, with_input, with_words, clear_steps, IsGiven, end_of, ClearMeans, ReadsGiven, Runs}
 use Rattle.oblivc_main.specs.declared.status.Status.{Status}

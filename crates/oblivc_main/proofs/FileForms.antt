@@ -1,5 +1,5 @@
 -- The first bytes of a file, up to a limit, say of the whole file what its form needs.
-use Rattle.std.proofs.Common.{ℕ, ◌≡◌, ◌<◌, ◌≤◌, ℤ, List, length, take, Option, Some, None, refl, sym, ap, ◌∙◌, subst, arith, min, inl, inr, Result, Ok, Err}
+use Rattle.std.proofs.Common.{ℕ, ◌≡◌, ◌<◌, ◌≤◌, ℤ, List, length, take, Option, Some, None, refl, sym, ap, ◌∙◌, subst, arith, min, inl, inr, Ok, Err}
 use Rattle.std.specs.Prelude.{◌⊎◌, IfSome, IsSomeAnd}
 use Rattle.std.proofs.lemmas.List.{take_all, length-take}
 use Rattle.std.proofs.lemmas.Bool.{cases_lt}

@@ -1,19 +1,21 @@
 -- What holds of single actions of a run in the clear.
-use Rattle.std.specs.Prelude.{ℕ, ◌≡◌, ℤ, List, Bool, true, false, not, ◌&&◌, slice_get}
+use Rattle.std.specs.Prelude.{ℕ, ◌≡◌, ◌≤◌, ◌+◌, ℤ, List, length, Bool, true, false, not, ◌&&◌, slice_get}
 use Rattle.oc_values.specs.declared.integers.IntKind.{IntKind}
 use Rattle.oc_values.specs.declared.integers.IntKind.TheVariants.{Bool as KBool}
 use Rattle.oc_values.specs.Integers.{is_zero, number_of}
 use Rattle.oc_cells.specs.declared.types.CType.{CType, Int as CInt}
 use Rattle.oc_cells.specs.declared.memory.Address.{Address}
-use Rattle.oc_cells.specs.declared.memory.Address.TheVariants.{At}
+use Rattle.oc_cells.specs.declared.memory.Address.TheVariants.{Null, At}
 use Rattle.oc_cells.specs.Types.{is_hidden}
+use Rattle.oc_cells.specs.Layout.{has_size}
+use Rattle.oc_cells.specs.Memory.{copy, AllHaveForm}
 use Rattle.oc_source.specs.declared.spot.Spot.{Spot}
 use Rattle.oc_typed.specs.declared.typed.TStmtNode.{Always', Row_of-TStmt}
 use Rattle.oc_walk.specs.declared.run.ShownItem.{ShownItem}
 use Rattle.oc_walk.specs.declared.run.Value.{Value}
-use Rattle.oc_walk.specs.declared.run.Value.TheVariants.{Hidden}
-use Rattle.oc_walk.specs.Walking.{Mem, State, Res, Act, Go, Stop, Site, bind, still, scoped}
-use Rattle.oc_walk.specs.Cells.{puts, writes, opens, typed_slot}
+use Rattle.oc_walk.specs.declared.run.Value.TheVariants.{Hidden, Pointer}
+use Rattle.oc_walk.specs.Walking.{Mem, State, Res, Act, Go, Stop, Site, bind, still, scoped, answered, keeps}
+use Rattle.oc_walk.specs.Cells.{puts, writes, opens, typed_slot, starts_copy, copies_all}
 use Rattle.oc_walk.specs.Expressions.{Under}
 use Rattle.oc_walk.specs.Statements.{F, proceed, both, node, part}
 use Rattle.oc_meanings.specs.Clear.{clear}
@@ -63,3 +65,16 @@ AlwaysRuns =
     → node (clear X Y) x w p (Always' n _ s) st
     ≡ scoped (typed_slot (clear X Y) p (slice_get x.slots n) (λ t. bind (opens (clear X Y) p x.run.structs t.ty n) (λ b.
     bind (still (puts (clear X Y) p t.ty (At b 0) (Hidden KBool (number_of w.enable)))) (λ _. part (clear X Y) x (record w { enable = true }) s)))) st
+
+-- so many cells from an address on have offsets that an address can have
+abbrev pub IsNear : ℕ → Address → Type 0
+IsNear n Null = Unit {0}
+IsNear n (At b i) = i + n ≤ 4294967295
+
+-- a copy of cells of these leaves under no condition is that of memory, where each cell has the form of its leaf
+abbrev pub CopiesAreMemorys : Type 0
+CopiesAreMemorys =
+    (X Y : List ℤ) (p : Spot) (ls : List CType) (to from : Address) (m : ClearMem)
+    → has_size ls ≡ true → IsNear (length ls) to → IsNear (length ls) from → AllHaveForm m.blocks
+    → bind (starts_copy (clear X Y) p ls to (Pointer from)) (λ b. copies_all (clear X Y) p true ls to b) m
+    ≡ bind (λ n. answered p (copy n.blocks to from ls) n) keeps m

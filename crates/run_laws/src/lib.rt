@@ -1,7 +1,7 @@
-//! What a reader of a program may rely on at each write, each `obliv if` and each `~obliv` block of a run in the clear.
+//! What a reader of a program may rely on at each write, each `obliv if`, each `~obliv` block and each copy of a run in the clear.
 #![tactic(auto)]
 
-ghost use Rattle.run_laws.specs.Laws.{HeldBackWritesLeave, PublicWritesAreMade, BothPartsRun, AlwaysRuns};
+ghost use Rattle.run_laws.specs.Laws.{HeldBackWritesLeave, PublicWritesAreMade, BothPartsRun, AlwaysRuns, CopiesAreMemorys};
 
 /// A write to a hidden cell under a condition that doesn't hold leaves all memory as it is, and one to a public cell is made
 /// whatever the condition is.
@@ -19,4 +19,9 @@ pub fn both_parts_run()
 /// A `~obliv` block runs under no condition, whatever surrounds it.
 pub fn always_runs()
     ensures { AlwaysRuns }
+{}
+
+/// A copy of a struct under no condition is memory's own copy.
+pub fn copies_are_memorys()
+    ensures { CopiesAreMemorys }
 {}

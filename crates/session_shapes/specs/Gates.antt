@@ -1,8 +1,8 @@
 -- The gates of an event: an operation of words, its width, and how many ANDs it has.
-use Rattle.std.specs.Prelude.{ℕ, ℤ, pos, negsuc, Bool, true, false, Option, Some, None}
+use Rattle.std.specs.Prelude.{ℕ, Bool, true, false, Option, Some, None}
 use Rattle.oc_values.specs.declared.integers.BinaryOp.{BinaryOp}
 use Rattle.oc_values.specs.declared.integers.BinaryOp.TheVariants.{Shl}
-use Rattle.oc_values.specs.Integers.{width, is_signed}
+use Rattle.oc_values.specs.Integers.{width, is_signed, shift_amount}
 use Rattle.word_circuits.specs.Fragments.{Operation, ands_of, word_op}
 use Rattle.word_circuits.specs.Fragments.Operation.{op_select, op_shift_known}
 use Rattle.word_circuits.specs.Operators.{binary, unary, conversion}
@@ -18,17 +18,12 @@ abbrev pub goes_left : BinaryOp → Bool
 goes_left Shl = true
 goes_left _ = false
 
--- the size of a public amount; a walk has asked before that it is no less than 0 and below the width
-abbrev pub size_of : ℤ → ℕ
-size_of (pos n) = n
-size_of (negsuc n) = 0
-
--- the operation that an entry's gates perform; a feed, a reveal, a result and a print have none
+-- the operation that an entry's gates perform, where a public amount counts modulo the width; a feed, a reveal, a result and a print have none
 abbrev pub word_event : Entry → Option WordEvent
 word_event (Op op k x y) = Some (record { operation = binary op (is_signed k); width = width k })
 word_event (One op k x) = Some (record { operation = unary op; width = width k })
 word_event (Turn from to x) = Some (record { operation = conversion from to; width = width from })
-word_event (ShiftBy op k x n) = Some (record { operation = op_shift_known (size_of n) (goes_left op) (is_signed k); width = width k })
+word_event (ShiftBy op k x n) = Some (record { operation = op_shift_known (shift_amount (width k) n) (goes_left op) (is_signed k); width = width k })
 word_event (Pick k e new old) = Some (record { operation = op_select; width = width k })
 word_event (Feed party k i) = None
 word_event (Reveal k x) = None

@@ -1,10 +1,8 @@
 -- How the steps of the code answer what is judged.
-use Rattle.std.proofs.Common.{◌≡◌, Result, Ok, Err, Bool, true, false, refl, sym, ap, ◌∙◌, subst}
-use Rattle.oc_source.specs.declared.spot.Spot.{Spot}
+use Rattle.std.proofs.Common.{◌≡◌, Result, Ok, Err, sym, ap, ◌∙◌, subst}
 use Rattle.type_steps.specs.declared.fault.TypeFault.{TypeFault}
 use Rattle.type_steps.specs.declared.fault.TypeFault.TheVariants.{Refused, NoMemory}
-use Rattle.type_rules.specs.declared.judging.TypeRule.{TypeRule}
-use Rattle.type_rules.specs.Judging.{Judged, next, needs}
+use Rattle.type_rules.specs.Judging.{Judged, next}
 use Rattle.type_steps.specs.Answering.{Said, Answers}
 
 said_next : {A B : Type 0} (m : Judged A) (k : A → Judged B) (a : A) (r : Result B TypeFault) → m ≡ Ok a → Said (k a) r → Said (next m k) r

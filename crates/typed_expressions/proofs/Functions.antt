@@ -1,11 +1,9 @@
 -- The function of a name, by its number.
 use Rattle.std.proofs.Common.{ℕ, zero, suc, ◌≡◌, ◌+◌, List, [], ◌∷◌, Option, Some, None, Bool, true, false, refl, sym, ap, ◌∙◌, arith}
-use Rattle.std.specs.Prelude.{if◌then◌else◌, slice_get, option_map}
-use Rattle.type_rules.specs.declared.judging.Seen.{Seen}
-use Rattle.type_rules.specs.declared.judging.OwnCall.{OwnCall}
+use Rattle.std.specs.Prelude.{if◌then◌else◌, slice_get}
 use Rattle.type_rules.specs.declared.judging.Heading.{Heading}
-use Rattle.type_rules.specs.Lookup.{Lookup, same_name}
-use Rattle.type_rules.specs.Calls.{Called, Unknown, Known, Variable, function_from, called_name, called_own, own_call}
+use Rattle.type_rules.specs.Lookup.{same_name}
+use Rattle.type_rules.specs.Calls.{Called, Unknown, Known, function_from}
 use Rattle.type_rules.specs.Written.{number_from}
 use Rattle.written_types.specs.Numbers.{heading_names}
 

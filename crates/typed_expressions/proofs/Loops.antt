@@ -1,20 +1,20 @@
 -- How the loops over the arguments of a call go on.
-use Rattle.std.proofs.Common.{◌≡◌, ℕ, zero, suc, ◌+◌, ◌<◌, ◌≤◌, Bool, true, false, List, [], ◌∷◌, ◌++◌, length, take, drop, get_or, Option, Some, None, Result, Ok, Err, refl, sym, ap, ◌∙◌, subst, append_assoc, append-nil, arith}
-use Rattle.std.specs.Prelude.{◌||◌, ◌&&◌, slice_get, map, max}
+use Rattle.std.proofs.Common.{◌≡◌, ℕ, zero, suc, ◌+◌, ◌<◌, ◌≤◌, Bool, true, false, List, [], ◌∷◌, ◌++◌, length, take, get_or, Result, Ok, Err, refl, sym, ap, ◌∙◌, subst, append_assoc, append-nil, arith}
+use Rattle.std.specs.Prelude.{◌||◌, ◌&&◌, map, max}
 use Rattle.oc_source.specs.declared.parsed.Expr.{Expr}
 use Rattle.oc_source.specs.Depth.{greatest}
 use Rattle.oc_values.specs.declared.integers.IntKind.{IntKind}
 use Rattle.oc_cells.specs.declared.types.CType.{CType, Int, Pointer', Array', Struct, Nothing}
 use Rattle.oc_typed.specs.declared.typed.TExpr.{TExpr}
 use Rattle.type_rules.specs.declared.judging.Want.{Want}
-use Rattle.type_rules.specs.Judging.{Judged, next, is_nothing}
+use Rattle.type_rules.specs.Judging.{Judged, next}
 use Rattle.type_rules.specs.Lookup.{Lookup}
 use Rattle.type_rules.specs.Calls as rules
 use Rattle.type_rules.specs.Calls.{joined, given_none, either_type}
 use Rattle.type_rules.specs.Prints as prints
 use Rattle.type_rules.specs.Prints.{printed_both}
 use Rattle.type_steps.specs.declared.fault.TypeFault.{TypeFault}
-use Rattle.type_steps.specs.Answering.{Said, Answers}
+use Rattle.type_steps.specs.Answering.{Answers}
 use Rattle.type_steps.proofs.Steps.{go, stop, fine, said_as}
 use Rattle.written_types.specs.Each.{each, state_after, mapped}
 use Rattle.written_types.proofs.EachItem.{Left, begins, goes_on, fails, ends}

@@ -23,7 +23,7 @@ use Rattle.type_rules.specs.Judging.{Judged, next, breaks}
 use Rattle.type_rules.specs.Lookup.{Lookup, value_of}
 use Rattle.type_rules.specs.Operators.{unary, bump, operate, logic, choice, assign, index, field, field_in, field_at, arrow, cast}
 use Rattle.type_rules.specs.Rules.{expr, typed_value, typed_alone, misplaced_size}
-use Rattle.type_rules.specs.Written.{type_name, base_type, base_kind, struct_named, number_from, starred}
+use Rattle.type_rules.specs.Written.{type_name, base_kind, struct_named, number_from, starred}
 use Rattle.type_steps.specs.declared.fault.TypeFault.{TypeFault}
 use Rattle.type_steps.specs.declared.fault.TypeFault.TheVariants.{Refused}
 use Rattle.type_steps.proofs.Steps.{go, stop, fine}

@@ -1,30 +1,28 @@
 -- The arguments of a call, as the tree keeps them and as the code reads them.
-use Rattle.std.proofs.Common.{◌≡◌, ◌<◌, length, ℕ, zero, suc, ◌+◌, Bool, true, false, List, [], ◌∷◌, drop, Option, Some, None, Result, Ok, Err, refl, sym, ap, ◌∙◌, arith}
+use Rattle.std.proofs.Common.{◌≡◌, ◌<◌, length, ℕ, zero, suc, ◌+◌, Bool, true, false, List, [], ◌∷◌, drop, Option, Some, None, Ok, Err, refl, sym, ap, ◌∙◌, arith}
 use Rattle.std.specs.Prelude.{◌&&◌, ◌||◌, is_some, slice_get, option_map}
 use Rattle.oc_values.specs.declared.integers.IntKind.{IntKind}
 use Rattle.oc_values.specs.declared.integers.BinaryOp.{BinaryOp}
 use Rattle.oc_source.specs.declared.spot.Spot.{Spot}
 use Rattle.oc_source.specs.declared.parsed.TypeName.{TypeName}
 use Rattle.oc_source.specs.declared.parsed.Expr.{Expr}
-use Rattle.oc_source.specs.declared.parsed.ExprNode.{ExprNode, Call, Binary, Text, Row_of-Expr}
+use Rattle.oc_source.specs.declared.parsed.ExprNode.{Call, Binary, Row_of-Expr}
 use Rattle.oc_source.specs.declared.parsed.ExprNode.TheBlock.{hidden-the_row-Expr-0, hidden-the_row-Expr-1, back-the_row-Expr}
 use denote.Hole.Carrier.{hidden}
 use mathlib.Core.Former.{this, list_count, children}
 use mathlib.Core.List.{map}
 use Rattle.sqlite_items.specs.formers.items.Items.{the_former}
 use Rattle.oc_cells.specs.declared.types.CType.{CType}
-use Rattle.oc_typed.specs.declared.typed.TExpr.{TExpr}
 use Rattle.type_rules.specs.declared.judging.Want.{Want}
 use Rattle.type_rules.specs.declared.judging.Found.{Found}
 use Rattle.type_rules.specs.declared.judging.Seen.{Seen}
-use Rattle.type_rules.specs.Written.{type_name}
 use Rattle.typed_expressions.proofs.Nodes.{type_in}
 use Rattle.type_rules.specs.Judging.{Judged, next}
-use Rattle.type_rules.specs.Lookup.{Lookup, convert, valued}
+use Rattle.type_rules.specs.Lookup.{Lookup, convert}
 use Rattle.oc_cells.specs.declared.types.SlotType.{SlotType}
 use Rattle.call_steps.specs.declared.formats.Format.{Format}
 use Rattle.call_steps.specs.Printed.{format_seen}
-use Rattle.type_rules.specs.Calls.{types_of, Called, called, Given, joined, given_value, given_as, given_by, ByValue, given_size, private_word, wants}
+use Rattle.type_rules.specs.Calls.{types_of, called, Given, joined, given_value, given_as, given_by, ByValue, given_size, private_word, wants}
 use Rattle.type_rules.specs.declared.judging.OwnCall.TheVariants as call
 use Rattle.type_rules.specs.Prints.{Printed, printed_both, printed_value, asked, format_of, print_called}
 use Rattle.type_rules.specs.Rules.{expr, passed, given, printing, printed, typed_value, params_of, wants_of, invoked, way, private, size, text_of, headed, product, sized, counted, both_parts, sizeof_type, has_sizeof, is_product}

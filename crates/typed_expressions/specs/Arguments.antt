@@ -9,7 +9,7 @@ use Rattle.type_rules.specs.declared.judging.Found.{Found}
 use Rattle.type_rules.specs.declared.judging.Want.{Want}
 use Rattle.type_rules.specs.Judging.{Judged, next}
 use Rattle.type_rules.specs.Lookup.{Lookup, convert}
-use Rattle.type_rules.specs.Calls.{Called, called, Given, given_none, given_value, joined, given_as, given_by}
+use Rattle.type_rules.specs.Calls.{Called, Given, given_none, given_value, joined, given_by}
 use Rattle.type_rules.specs.Prints.{Printed, printed_value, printed_both, format_of, asked, print_called}
 use Rattle.type_rules.specs.Rules.{typed_value, way, private, size, text_of, headed, params_of, wants_of, invoked}
 use Rattle.written_types.specs.Each.{each}

@@ -1,9 +1,9 @@
 -- Variables by their numbers.
-use Rattle.std.proofs.Common.{ℕ, zero, suc, ◌≡◌, List, [], ◌∷◌, Option, Some, None, Bool, true, false, refl, sym, ap, ◌∙◌}
+use Rattle.std.proofs.Common.{ℕ, ◌≡◌, List, [], ◌∷◌, Option, Some, None, Bool, true, false, refl, sym, ap, ◌∙◌}
 use Rattle.std.specs.Prelude.{if◌then◌else◌, slice_get}
 use Rattle.std.specs.Option.{option_map}
 use Rattle.type_rules.specs.declared.judging.Seen.{Seen}
-use Rattle.type_rules.specs.Lookup.{same_name, find, or_else, seen_here}
+use Rattle.type_rules.specs.Lookup.{same_name, find, or_else}
 use Rattle.visible_variables.specs.declared.scope.Variable.{Variable}
 use Rattle.visible_variables.specs.Seen.{seen_of, all_seen, later, last}
 

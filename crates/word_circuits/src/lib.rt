@@ -30,6 +30,6 @@ pub use known::known_word;
 pub use laws::{fragments_compute, fragments_have_ands, fragments_have_widths};
 pub use operation::{WordOp, ands};
 pub use products::multiply;
-pub use shifts::{resize, shift_known, shift_word};
+pub use shifts::{refit, resize, shift_known, shift_word};
 pub use sums::{add, negate, subtract};
 pub use word::Word;

@@ -68,6 +68,15 @@ pub fn resize<G: Gates>(gates: &mut G, x: &Word<G::Wire>, width: u8, signed: boo
     Word::of_array(resized(wires, filler, usize::from(width)))
 }
 
+/// The first wires of a word, as many as the width says, with this wire behind them where they are too few.
+pub fn refit<W: Copy + Default>(x: &Word<W>, filler: W, width: u8) -> Word<W>
+    requires { IsTrue (is_width width) }
+    ensures wires { result ≡ take width x.now ++ replicate (width - length x.now) filler }
+    ensures width { length result ≡ width }
+{
+    Word::of_array(resized(x.wires(), filler, usize::from(width)))
+}
+
 // The wire that a shift moves in.
 fn moved_in<W: Copy>(x: &[W], zero: W, left: bool, signed: bool) -> W
     requires { 0 < length x.now }

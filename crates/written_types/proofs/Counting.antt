@@ -1,5 +1,5 @@
 -- Cells and depths of structs by their numbers, and sizes that stop at a bound.
-use Rattle.std.proofs.Common.{ℕ, zero, suc, ◌≡◌, ◌+◌, ◌*◌, ◌<◌, List, [], ◌∷◌, Option, Some, None, min, refl, sym, ap, ◌∙◌, arith, Bool, true, false, nat_le, leb-true, leb-false, suc-mul}
+use Rattle.std.proofs.Common.{ℕ, zero, suc, ◌≡◌, ◌+◌, ◌*◌, ◌<◌, List, [], ◌∷◌, Some, None, min, refl, sym, ap, ◌∙◌, arith, Bool, true, false, nat_le, leb-true, leb-false, suc-mul}
 use Rattle.std.specs.Prelude.{slice_get, slice_index_or}
 use Rattle.oc_cells.specs.declared.types.CType.{CType, Array}
 use Rattle.oc_cells.specs.declared.types.CType.TheBlock.{hidden-the_row-CType-0}

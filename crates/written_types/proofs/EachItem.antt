@@ -1,10 +1,10 @@
 -- A loop over a list judges each of its items.
-use Rattle.std.proofs.Common.{ℕ, ◌≡◌, ◌+◌, ◌<◌, ◌≤◌, List, [], ◌∷◌, ◌++◌, length, get_or, take, drop, Result, Ok, Err, refl, sym, ap, ◌∙◌, subst, append_assoc, append-nil}
+use Rattle.std.proofs.Common.{ℕ, ◌≡◌, ◌+◌, ◌<◌, ◌≤◌, List, [], ◌∷◌, ◌++◌, length, get_or, take, drop, Result, Ok, Err, refl, sym, ap, ◌∙◌, append_assoc, append-nil}
 use Rattle.std.proofs.lemmas.List.{drop_more, take_more, drop_all}
 use Rattle.type_rules.specs.Judging.{Judged, next}
 use Rattle.type_steps.specs.declared.fault.TypeFault.{TypeFault}
-use Rattle.type_steps.specs.Answering.{Said, Answers}
-use Rattle.type_steps.proofs.Steps.{go, stop, said_as}
+use Rattle.type_steps.specs.Answering.{Answers}
+use Rattle.type_steps.proofs.Steps.{stop, said_as}
 use Rattle.written_types.specs.Each.{each, state_after}
 
 pub at_item : {X : Type 0} (xs : List X) (i : ℕ) (x : X) → x ≡ get_or xs i x → i < length xs → drop i xs ≡ x ∷ drop (i + 1) xs

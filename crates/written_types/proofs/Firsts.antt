@@ -5,7 +5,7 @@ use Rattle.oc_cells.specs.declared.types.FieldType.{FieldType}
 use Rattle.oc_cells.specs.declared.types.StructType.{StructType}
 use Rattle.oc_typing.specs.Rules.{field_names}
 use Rattle.type_rules.specs.Lookup.{same_name}
-use Rattle.type_rules.specs.Operators.{field_of, fields_of}
+use Rattle.type_rules.specs.Operators.{field_of}
 use Rattle.type_rules.specs.Written.{number_from}
 use Rattle.written_types.specs.declared.shape.Shape.{Shape}
 use Rattle.written_types.specs.Shapes.{types}

@@ -1,5 +1,5 @@
 -- Names that are new, and parameters judged one after another.
-use Rattle.std.proofs.Common.{ℕ, zero, suc, ◌≡◌, List, [], ◌∷◌, Option, Some, None, Bool, false, Result, Ok, Err, refl, sym, ap, ◌∙◌}
+use Rattle.std.proofs.Common.{ℕ, zero, suc, ◌≡◌, List, [], ◌∷◌, Some, None, Bool, false, Ok, Err, refl, sym, ap, ◌∙◌}
 use Rattle.std.specs.Prelude.{not, is_some}
 use Rattle.std.specs.Map.{lookup}
 use Rattle.std.specs.Ordering.{nat_cmp}
@@ -20,7 +20,7 @@ use Rattle.type_rules.specs.Written.{has_name, params, param_of, more_stars, sta
 use Rattle.type_steps.specs.declared.fault.TypeFault.TheVariants.{Refused}
 use Rattle.type_steps.specs.Answering.{Answers}
 use Rattle.type_steps.proofs.Steps.{said_as, fine}
-use Rattle.written_types.specs.Numbers.{get_at, Has, Numbers}
+use Rattle.written_types.specs.Numbers.{get_at, Has}
 use Rattle.written_types.specs.Each.{each}
 use Rattle.written_types.specs.Params.{param_judged, with_param}
 use Rattle.written_types.proofs.EachItem.{next_next, next_same}

@@ -15,7 +15,24 @@ use Rattle.clear_walk.proofs.Bodies.{after_is, deep_after, stepped_so, declare_s
 use Rattle.clear_walk.proofs.Turns.{tested_so, hidden_so, condition_so, start_so, advance_so, return_expr, header_declares, header_advance, other_part, declared_so, always_is, filled_then, enabled_part, both_so, done_next, turn_goes, turn_ends, body_goes}
 use Rattle.clear_walk.proofs.Loops.{exprs_start, exprs_next, exprs_stop, exprs_over, declares_start, declares_next, declares_stop, declares_over, passed_start, passed_next, list_ends, list_over}
 use Rattle.clear_walk.proofs.Calls.{call_goes, function_so, body_so}
+use Rattle.std.proofs.Common.{SFits, w64, to_z, of_z}
+use Rattle.std.specs.Int.{w128}
+use Rattle.std.proofs.lemmas.Int.{to_z-of_z}
+use Rattle.oc_cells.specs.Types.{kind_of}
+use Rattle.oc_walk.specs.declared.run.Value.TheVariants.{Int}
+use Rattle.clear_walk.proofs.Glancing.{glanced, glanced_place}
 use Rattle.clear_walk.proofs.nodes.+run.Goals as goal
+
+pub run_expr-returns-in-Some : goal.run_expr-returns-in-Some
+run_expr-returns-in-Some t c =
+    let f : SFits w128 c.from.result = search rules in
+    let g : SFits w64 c.in-Some.n = search rules in
+    glanced (around c.args.frame.now c.args.at) c.args.e.now c.in-Some.n c.in-Some.ensures
+    (ap (λ k. Ok (Int k (to_z w128 (of_z w128 c.from.result)))) c.kind_of.ensures ∙ ap (λ i. Ok (Int (kind_of c.args.e.now.ty) i)) (to_z-of_z w128 c.from.result f ∙ c.from.ensures ∙ to_z-of_z w64 c.in-Some.n g))
+
+pub run_place-returns-in-Some : goal.run_place-returns-in-Some
+run_place-returns-in-Some t c =
+    glanced_place (around c.args.frame.now c.args.at) c.args.place.now c.in-Some.to c.in-Some.ensures
 
 pub run_expr-returns-in-Read : goal.run_expr-returns-in-Read
 run_expr-returns-in-Read t c =

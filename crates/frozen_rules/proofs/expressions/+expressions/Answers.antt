@@ -1,4 +1,4 @@
-use Rattle.std.proofs.Common.{◌≡◌, ◌∙◌, ap, sym, refl, Err, Some, None, [], rules}
+use Rattle.std.proofs.Common.{◌∙◌, ap, refl, Err, Some, [], rules}
 use Rattle.std.proofs.lemmas.Result.{err_from_is_err_and}
 use Rattle.oc_typed.specs.declared.typed.TExprNode.{Read, AddressOf, Decay}
 use Rattle.frozen_rules.specs.Scopes.{facts_of, around}
@@ -10,7 +10,7 @@ use Rattle.frozen_rules.proofs.Sequences.{failed, passed, told_as, loop_failed, 
 use Rattle.frozen_rules.proofs.Nodes.{place_so, unary_so, binary_so, same_so, logic_so, step_so, choose_so, assign_so, update_so, convert_so, call_so, own_so, deref_so, index_so, field_so, order_behind, order_before, callee_so, marked_so}
 use Rattle.frozen_rules.proofs.Rests.{arg_next, args_end, own_args}
 use Rattle.frozen_rules.proofs.Weight.{expr_weight}
-use Rattle.frozen_rules.proofs.Falls.{item_weight, first_weight, rest_weight}
+use Rattle.frozen_rules.proofs.Falls.{item_weight, first_weight}
 use Rattle.frozen_rules.proofs.expressions.+expressions.Goals as goal
 
 pub check_expr-returns-in-Read : goal.check_expr-returns-in-Read

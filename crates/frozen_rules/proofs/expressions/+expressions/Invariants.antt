@@ -1,4 +1,4 @@
-use Rattle.std.proofs.Common.{◌≡◌, ◌+◌, drop}
+use Rattle.std.proofs.Common.{◌+◌, drop}
 use Rattle.std.specs.Prelude.{max}
 use Rattle.std.specs.Option.{option_copied}
 use Rattle.scope_rules.specs.InScope.{params_of}

@@ -1,7 +1,5 @@
-use Rattle.std.proofs.Common.{◌∙◌, ap, sym, refl, Err, Ok}
+use Rattle.std.proofs.Common.{◌∙◌, ap, refl, Err}
 use Rattle.std.proofs.lemmas.Result.{err_from_is_err_and}
-use Rattle.frozen_rules.specs.Scopes.{around}
-use Rattle.numbered_scopes.specs.Numbered.{numbered_stmts}
 use Rattle.frozen_rules.proofs.Sequences.{told_as, stopped, finished}
 use Rattle.frozen_rules.proofs.Parts.{function_is}
 use Rattle.frozen_rules.proofs.functions.check_function.Goals as goal

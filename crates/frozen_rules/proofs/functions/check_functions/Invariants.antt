@@ -1,4 +1,4 @@
-use Rattle.std.proofs.Common.{◌≡◌, drop}
+use Rattle.std.proofs.Common.{drop}
 use Rattle.numbered_scopes.specs.Numbered.{numbered_functions}
 use Rattle.frozen_rules.proofs.Sequences.{Left}
 use Rattle.frozen_rules.proofs.functions.check_functions.Given as goal

@@ -1,5 +1,4 @@
 use Rattle.std.proofs.Common.{◌≡◌, ◌+◌, drop}
-use Rattle.std.specs.Prelude.{map}
 use Rattle.numbered_scopes.specs.Numbered.{numbered_stmts}
 use Rattle.frozen_rules.proofs.Sequences.{Left}
 use Rattle.frozen_rules.specs.Scopes.{facts_of, around}

@@ -1,4 +1,4 @@
-use Rattle.std.proofs.Common.{◌∙◌, ap, sym}
+use Rattle.std.proofs.Common.{ap, sym}
 use Rattle.scope_rules.specs.InScope.{slot_type}
 use Rattle.scope_rules.specs.FirstFault.{visits_coming}
 use Rattle.frozen_rules.specs.Scopes.{facts_of, around}

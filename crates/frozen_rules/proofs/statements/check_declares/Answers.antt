@@ -1,4 +1,4 @@
-use Rattle.std.proofs.Common.{◌≡◌, ◌∙◌, ap, sym, refl, Err, Ok}
+use Rattle.std.proofs.Common.{◌∙◌, ap, sym, Err}
 use Rattle.std.proofs.lemmas.Result.{err_from_is_err_and}
 use Rattle.frozen_rules.specs.Scopes.{facts_of, around}
 use Rattle.frozen_rules.proofs.Sequences.{loop_failed, loop_next, loop_ended}

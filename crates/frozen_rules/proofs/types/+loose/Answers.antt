@@ -1,9 +1,8 @@
 use Rattle.std.proofs.Common.{ℕ, ◌≤◌, ◌≡◌, ◌∙◌, sym, ap, refl, List, Bool, true, false, Some, nat_lt, take, arith}
-use Rattle.std.specs.Prelude.{slice_get, not, ◌&&◌}
-use Rattle.oc_cells.specs.declared.types.CType.{CType}
+use Rattle.std.specs.Prelude.{slice_get, not}
 use Rattle.oc_cells.specs.declared.types.FieldType.{FieldType}
 use Rattle.oc_cells.specs.declared.types.StructType.{StructType}
-use Rattle.oc_cells.specs.Types.{holds_public, public_structs}
+use Rattle.oc_cells.specs.Types.{public_structs}
 use Rattle.oc_cells.specs.Layout.{leaves, field_leaves, struct_leaves, or_none}
 use Rattle.scope_rules.specs.Frozen.{some_loose}
 use Rattle.frozen_rules.proofs.Forms.{loose_so, loose_empty, rest_loose, unfrozen_loose, frozen_tight, loose_append}

@@ -1,5 +1,4 @@
 use Rattle.std.proofs.Common.{ap, Err, ◌∙◌, arith}
-use Rattle.std.specs.Option.{option_map}
 use Rattle.std.proofs.lemmas.Result.{err_from_is_err_and}
 use Rattle.oblivcc_commands.specs.Views.{clear_of}
 use Rattle.oblivc_main.proofs.ClearRuns.{source_stops, first_stops, second_stops, ran}

@@ -1,4 +1,3 @@
-use Rattle.std.proofs.Common.{◌≡◌, Ok, refl, sym, ap, ◌∙◌}
 use Rattle.std.proofs.lemmas.Result.{err_from_is_err_and}
 use Rattle.type_steps.proofs.Steps.{go, stop}
 use Rattle.type_steps.proofs.operators.cast.Goals as goal

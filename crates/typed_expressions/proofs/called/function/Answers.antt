@@ -1,4 +1,4 @@
-use Rattle.std.proofs.Common.{◌≡◌, Option, Some, None, sym, ap, ◌∙◌}
+use Rattle.std.proofs.Common.{Some, None, sym, ap, ◌∙◌}
 use Rattle.typed_expressions.proofs.Functions.{told, by_number, function_number}
 use Rattle.typed_expressions.proofs.called.function.Goals as goal
 

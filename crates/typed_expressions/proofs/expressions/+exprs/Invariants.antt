@@ -1,6 +1,5 @@
 use Rattle.std.proofs.Common.{◌+◌}
 use Rattle.std.specs.Prelude.{max}
-use Rattle.std.proofs.Common.{[]}
 use Rattle.type_rules.specs.Calls.{types_of, wants}
 use Rattle.written_types.proofs.EachItem.{Left}
 use Rattle.typed_expressions.specs.Sites.{site_lookup}

@@ -1,4 +1,4 @@
-use Rattle.std.proofs.Common.{◌≡◌, ◌∙◌, Option, Some, None, refl, sym}
+use Rattle.std.proofs.Common.{◌∙◌, Some, None, refl, sym}
 use Rattle.std.proofs.lemmas.Map.Text.{btree_map_updates_str}
 use Rattle.visible_variables.proofs.Scoping.{latest_back}
 use Rattle.visible_variables.proofs.scope.show.Goals as goal

@@ -1,7 +1,4 @@
-use Rattle.std.proofs.Common.{◌≡◌, ℕ, List, Option, Some, None, sym, ap, ◌∙◌}
-use Rattle.std.specs.Option.{option_copied}
-use Rattle.oc_typing.specs.Rules.{field_names}
-use Rattle.type_rules.specs.Written.{number_from}
+use Rattle.std.proofs.Common.{Some, None, sym, ap, ◌∙◌}
 use Rattle.written_types.proofs.Firsts.{got, field_number}
 use Rattle.written_types.proofs.fields.shape_field.Goals as goal
 

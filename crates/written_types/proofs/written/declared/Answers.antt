@@ -1,4 +1,4 @@
-use Rattle.std.proofs.Common.{◌≡◌, List, ℕ, Bool, false, Result, Ok, Err, IfOk, sym, ap, ◌∙◌, subst}
+use Rattle.std.proofs.Common.{◌≡◌, List, ℕ, Bool, false, Result, Ok, Err, IfOk, sym, ap, ◌∙◌}
 use Rattle.oc_values.specs.declared.lists.NoMemory.{NoMemory}
 use Rattle.oc_cells.specs.declared.types.CType.{CType}
 use Rattle.oc_cells.specs.Types.{normal}

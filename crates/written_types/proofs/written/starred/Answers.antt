@@ -1,4 +1,4 @@
-use Rattle.std.proofs.Common.{ℕ, suc, ◌≡◌, ◌+◌, ◌≤◌, List, Bool, false, sym, ap, ◌∙◌, arith, refl}
+use Rattle.std.proofs.Common.{ℕ, suc, ◌≡◌, ◌+◌, ◌≤◌, List, Bool, false, ap, ◌∙◌, arith, refl}
 use Rattle.std.specs.Prelude.{◌&&◌}
 use Rattle.oc_cells.specs.declared.types.CType.{CType}
 use Rattle.oc_cells.specs.declared.types.CType.TheViews.{Pointer}

@@ -1,4 +1,4 @@
-use Rattle.std.proofs.Common.{◌≡◌, ◌≤◌, ◌∙◌, refl, sym, ap, subst, arith, length}
+use Rattle.std.proofs.Common.{◌∙◌, sym, ap, arith}
 use Rattle.visible_variables.specs.Seen.{all_seen}
 use Rattle.visible_variables.proofs.Scoping.{made, seen_length}
 use Rattle.visible_variables.proofs.scope.Scope.enter.Goals as goal

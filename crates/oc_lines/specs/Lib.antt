@@ -1,0 +1,3 @@
+pub mod MemoryLines
+pub mod TcpLines
+pub mod Dialed
