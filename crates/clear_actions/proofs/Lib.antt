@@ -4,3 +4,4 @@ pub mod Words
 pub mod CellByCell
 pub mod Calls
 pub mod Views
+pub mod AtOnce

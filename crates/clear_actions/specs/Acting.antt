@@ -11,7 +11,7 @@ use Rattle.oc_walk.specs.declared.run.Outcome.TheVariants as outcome
 use Rattle.oc_walk.specs.Domain.{Domain}
 use Rattle.oc_walk.specs.Walking as walk
 use Rattle.oc_walk.specs.Walking.{Mem, State, Res, Act, Go, Stop, bind, pure, transfers, live_limit}
-use Rattle.oc_walk.specs.Cells.{copies_cell}
+use Rattle.oc_walk.specs.Cells.{copies_cell, starts_copy, copies_all}
 use Rattle.oc_walk.specs.Exchange.{cost}
 use Rattle.oc_walk.specs.declared.run.Value.{Value}
 use Rattle.oc_walk.specs.declared.run.Value.TheVariants.{Hidden}
@@ -92,3 +92,7 @@ fed q party k None = walk.trap I1 q
 abbrev pub copies_place : Spot → Bool → Option CType → Address → Address → Act ClearMem (Unit {0})
 copies_place p e (Some l) to from = bind (copies_cell bare p e l to from) (λ _. pure tt)
 copies_place p e None to from = pure tt
+
+-- a struct copied to an address, cell by cell under the enable, after all its cells were checked
+abbrev pub struct_copies : Spot → Bool → List CType → Address → Value ℤ → Act ClearMem (Unit {0})
+struct_copies p e ls to v = bind (starts_copy bare p ls to v) (λ b. copies_all bare p e ls to b)

@@ -29,7 +29,7 @@ use Rattle.clear_actions.specs.Acting.{mem_of, state_of}
 use Rattle.clear_actions.specs.declared.machine.Machine.{Machine}
 use Rattle.clear_glances.specs.Glances.{Tells, TellsNode, TellsPointer, TellsLink, TellsPlace, TellsPlaceNode, Fits, IsOperated, IsEntered, IsHeld, IsLinked, IsMoved}
 
-itself : (k : IntKind) → same_kind k k ≡ true
+pub itself : (k : IntKind) → same_kind k k ≡ true
 itself kind.Bool = refl
 itself kind.I8 = refl
 itself kind.U8 = refl
@@ -45,7 +45,7 @@ or_true true b h = refl
 or_true false b h = h
 
 -- kinds that are the same
-alike : (k l : IntKind) → same_kind k l ≡ true → k ≡ l
+pub alike : (k l : IntKind) → same_kind k l ≡ true → k ≡ l
 alike kind.Bool kind.Bool h = refl
 alike kind.I8 kind.I8 h = refl
 alike kind.U8 kind.U8 h = refl
@@ -96,7 +96,7 @@ module _ (m : Machine) where
     linked p Nothing a b h l = cc
 
     -- an operator on two integers of one kind
-    computed : (p : Spot) (op : BinaryOp) (k l r : IntKind) (v z n : ℤ) → same_kind l r ≡ true → kind_of_result op l ≡ k → operate_public op l v z ≡ Ok n
+    pub computed : (p : Spot) (op : BinaryOp) (k l r : IntKind) (v z n : ℤ) → same_kind l r ≡ true → kind_of_result op l ≡ k → operate_public op l v z ≡ Ok n
         → still (operates (clear f s) p op l false (Int l v) (Int r z)) (state_of m) ≡ Go (Int k n) (state_of m)
     computed p op k l r v z n h g e =
         ap (λ b. still (choose (b && (is_shift op || same_kind l r)) (divided (clear f s) p (kind_of_result op l) (operate_public op l v z)) (odd p)) (state_of m)) (itself l)

@@ -148,7 +148,7 @@ fn entered(m: &Machine<'_>, slot: u64) -> Option<Address>
 }
 
 /// The integer in the cell at an address, where it is public and of this kind.
-fn held(m: &Machine<'_>, ty: &CType, kind: IntKind, at: Address) -> Option<i64>
+pub(crate) fn held(m: &Machine<'_>, ty: &CType, kind: IntKind, at: Address) -> Option<i64>
     ensures { IsHeld m.now ty.now kind at result }
 {
     let of = public_kind(ty)?;

@@ -25,7 +25,7 @@ use clear_actions::operations::{operate_binary, operate_unary, test, turn};
 use clear_actions::places::{compare_places, follow};
 use clear_actions::variables::{begin_call, close_slots, end_call, find_slot, spend};
 use clear_actions::{Fault, Machine, perform};
-use clear_glances::{glance, glance_place};
+use clear_glances::{assign_at_once, glance, glance_place, update_at_once};
 use oc_cells::{Address, CType, TrapKind};
 use oc_source::Spot;
 use oc_typed::{
@@ -298,6 +298,23 @@ fn run_assign<'t>(
 ) -> Result<Value<i128>, Fault>
     ensures { (e : TExpr) → RunsNode (around frame.now at) e (Assign place.now value.now) m.old result m.new }
 {
+    if let Some(n) = assign_at_once(m, GLANCE, place, value) {
+        return Ok(Value::Int(kind_of(&place.ty), i128::from(n)));
+    }
+    run_assigned(m, frame, at, place, value)
+}
+
+/// The same, by the walk of its parts.
+#[cycle(run)]
+fn run_assigned<'t>(
+    m: &mut Machine<'t>,
+    frame: &Frame<'t>,
+    at: At,
+    place: &'t TPlace,
+    value: &'t TExpr,
+) -> Result<Value<i128>, Fault>
+    ensures { (e : TExpr) → RunsNode (around frame.now at) e (Assign place.now value.now) m.old result m.new }
+{
     let to = run_place(m, frame, deeper(at), place)?;
     let new = run_expr(m, frame, deeper(at), value)?;
     assign(m, at.enabled, place.spot, value.spot, &place.ty, to, new)
@@ -306,6 +323,26 @@ fn run_assign<'t>(
 /// A compound assignment, `++` or `--`.
 #[cycle(run)]
 fn run_update<'t>(
+    m: &mut Machine<'t>,
+    frame: &Frame<'t>,
+    at: At,
+    e: &'t TExpr,
+    op: BinaryOp,
+    place: &'t TPlace,
+    value: &'t TExpr,
+    old: bool,
+) -> Result<Value<i128>, Fault>
+    ensures { RunsNode (around frame.now at) e.now (Update op place.now value.now old) m.old result m.new }
+{
+    if let Some(n) = update_at_once(m, GLANCE, op, place, value, old) {
+        return Ok(Value::Int(kind_of(&place.ty), i128::from(n)));
+    }
+    run_updated(m, frame, at, e, op, place, value, old)
+}
+
+/// The same, by the walk of its parts.
+#[cycle(run)]
+fn run_updated<'t>(
     m: &mut Machine<'t>,
     frame: &Frame<'t>,
     at: At,

@@ -3,3 +3,4 @@ pub mod Faults
 pub mod Pieces
 pub mod Spelled
 pub mod Opening
+pub mod Changes

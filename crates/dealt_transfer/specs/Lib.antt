@@ -5,3 +5,4 @@ pub mod Reading
 pub mod Labels
 pub mod Dealing
 pub mod Transfers
+pub mod Hiding

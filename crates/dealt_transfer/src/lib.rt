@@ -13,6 +13,7 @@ mod dealing;
 mod fault;
 pub mod form;
 mod half;
+pub mod hiding;
 mod reading;
 mod stream;
 mod transfer;

@@ -1,9 +1,10 @@
 //! A transfer over dealt halves.
 
-ghost use Rattle.std.specs.Prelude.{◌≡◌, ◌<◌, ◌≤◌, ℕ, MatchOption, length, if◌then◌else◌};
+ghost use Rattle.std.specs.Prelude.{◌≡◌, ◌<◌, ◌≤◌, ℕ, Bool, MatchOption, length, if◌then◌else◌};
 ghost use Rattle.dealt_transfer.specs.declared.half.SenderHalf.{SenderHalf as Sender};
 ghost use Rattle.dealt_transfer.specs.Halves.{most_transfers, receiver as receiver_of};
-ghost use Rattle.dealt_transfer.specs.Transfers.{FirstUnmatched, Match, masked_pair, opened, sent_bit};
+ghost use Rattle.dealt_transfer.specs.Transfers.{FirstUnmatched, Match, bit_of, masked_pair, opened, pads_of, sent_bit, turned};
+ghost use Rattle.dealt_transfer.specs.Hiding.{apart, masked, remapped};
 
 use crate::dealing::chosen;
 use crate::half::{ReceiverHalf, SenderHalf};
@@ -12,7 +13,9 @@ use half_gates::Label;
 /// What the receiver sends to choose the second message (`true`) or the first of the transfer `i`.
 pub fn choice_bit(half: &ReceiverHalf, i: u32, choice: bool) -> bool
     requires { i < length half.now.pads }
-    ensures { result ≡ sent_bit (receiver_of half.now) i choice }
+    ensures sent { result ≡ sent_bit (receiver_of half.now) i choice }
+    // The same is sent for another choice at the bit that is turned by both.
+    ensures hides { (other : Bool) → turned other (remapped choice other (bit_of (receiver_of half.now) i)) ≡ result }
 {
     choice != half.bits.as_slice()[i as usize]
 }
@@ -20,7 +23,10 @@ pub fn choice_bit(half: &ReceiverHalf, i: u32, choice: bool) -> bool
 /// What the sender sends for two messages of the transfer `i`, by the bit `d` that came.
 pub fn mask_pair(half: &SenderHalf, i: u32, d: bool, m0: Label, m1: Label) -> (Label, Label)
     requires { i < length half.now.pads }
-    ensures { result ≡ masked_pair half.now i d m0 m1 }
+    ensures masks { result ≡ masked_pair half.now i d m0 m1 }
+    // The same is sent for another message in the place of the one that wasn't chosen, at another pad that the receiver lacks.
+    ensures hides { (choice bit : Bool) (x : ℕ) → d ≡ turned choice bit
+        → masked (apart bit x (pads_of half.now i)) d (apart choice x (m0, m1)) ≡ result }
 {
     let pads = half.pads.as_slice()[i as usize];
     (m0 ^ chosen(pads, d), m1 ^ chosen(pads, !d))

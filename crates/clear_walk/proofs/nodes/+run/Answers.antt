@@ -20,7 +20,7 @@ use Rattle.std.specs.Int.{w128}
 use Rattle.std.proofs.lemmas.Int.{to_z-of_z}
 use Rattle.oc_cells.specs.Types.{kind_of}
 use Rattle.oc_walk.specs.declared.run.Value.TheVariants.{Int}
-use Rattle.clear_walk.proofs.Glancing.{glanced, glanced_place}
+use Rattle.clear_walk.proofs.Glancing.{glanced, glanced_place, done, from_same}
 use Rattle.clear_walk.proofs.nodes.+run.Goals as goal
 
 pub run_expr-returns-in-Some : goal.run_expr-returns-in-Some
@@ -29,6 +29,27 @@ run_expr-returns-in-Some t c =
     let g : SFits w64 c.in-Some.n = search rules in
     glanced (around c.args.frame.now c.args.at) c.args.e.now c.in-Some.n c.in-Some.ensures
     (ap (λ k. Ok (Int k (to_z w128 (of_z w128 c.from.result)))) c.kind_of.ensures ∙ ap (λ i. Ok (Int (kind_of c.args.e.now.ty) i)) (to_z-of_z w128 c.from.result f ∙ c.from.ensures ∙ to_z-of_z w64 c.in-Some.n g))
+
+pub run_assign-returns-in-Some : goal.run_assign-returns-in-Some
+run_assign-returns-in-Some t c =
+    let f : SFits w128 c.from.result = search rules in
+    let g : SFits w64 c.in-Some.n = search rules in
+    done (around c.args.frame.now c.args.at) (Assign c.args.place.now c.args.value.now) c.args.place.now.ty c.in-Some.n c.in-Some.ensures
+    (ap (λ k. Ok (Int k (to_z w128 (of_z w128 c.from.result)))) c.kind_of.ensures ∙ ap (λ i. Ok (Int (kind_of c.args.place.now.ty) i)) (to_z-of_z w128 c.from.result f ∙ c.from.ensures ∙ to_z-of_z w64 c.in-Some.n g))
+
+pub run_update-returns-in-Some : goal.run_update-returns-in-Some
+run_update-returns-in-Some t c =
+    let f : SFits w128 c.from.result = search rules in
+    let g : SFits w64 c.in-Some.n = search rules in
+    done (around c.args.frame.now c.args.at) (Update c.args.op c.args.place.now c.args.value.now c.args.old) c.args.place.now.ty c.in-Some.n c.in-Some.ensures
+    (ap (λ k. Ok (Int k (to_z w128 (of_z w128 c.from.result)))) c.kind_of.ensures ∙ ap (λ i. Ok (Int (kind_of c.args.place.now.ty) i)) (to_z-of_z w128 c.from.result f ∙ c.from.ensures ∙ to_z-of_z w64 c.in-Some.n g))
+    c.args.e.now
+
+pub run_assign-returns : goal.run_assign-returns
+run_assign-returns t c = λ e. from_same _ c.in_default.ensures (c.run_assigned.ensures e)
+
+pub run_update-returns : goal.run_update-returns
+run_update-returns t c = from_same _ c.in_default.ensures c.run_updated.ensures
 
 pub run_place-returns-in-Some : goal.run_place-returns-in-Some
 run_place-returns-in-Some t c =
@@ -229,36 +250,36 @@ pub run_choice-returns : goal.run_choice-returns
 run_choice-returns t c =
     choose_so (around c.args.frame.now c.args.at) c.args.e.now c.args.cond.now c.args.yes.now c.args.no.now (Ok _) (deep_expr c.args.frame.now c.args.at _ c.deeper.ensures c.in_ok-value.ensures) (test_then (around c.args.frame.now c.args.at) _ _ _ (Ok _) c.in_ok-test.ensures (no_goes (around c.args.frame.now c.args.at) c.args.yes.now c.args.no.now _ c.if-branch.false (deep_expr c.args.frame.now c.args.at _ c.deeper-2.ensures c.run_expr-2.ensures)))
 
-pub run_assign-returns-in_err-to : goal.run_assign-returns-in_err-to
-run_assign-returns-in_err-to t c =
+pub run_assigned-returns-in_err-to : goal.run_assigned-returns-in_err-to
+run_assigned-returns-in_err-to t c =
     let q = err_from_is_err_and c.from_residual.result c.from_residual.ensures.1 in
     λ e. assign_so (around c.args.frame.now c.args.at) e c.args.place.now c.args.value.now (Err _) (deep_place c.args.frame.now c.args.at _ c.deeper.ensures c.in_err-to.ensures) (q.1 ∙ ap Err q.2, refl)
 
-pub run_assign-returns-in_err-new : goal.run_assign-returns-in_err-new
-run_assign-returns-in_err-new t c =
+pub run_assigned-returns-in_err-new : goal.run_assigned-returns-in_err-new
+run_assigned-returns-in_err-new t c =
     let q = err_from_is_err_and c.from_residual-in_err-new.result c.from_residual-in_err-new.ensures.1 in
     λ e. assign_so (around c.args.frame.now c.args.at) e c.args.place.now c.args.value.now (Ok _) (deep_place c.args.frame.now c.args.at _ c.deeper.ensures c.in_ok-to.ensures) (value_goes (around c.args.frame.now c.args.at) c.args.place.now c.args.value.now _ (Err _) (deep_expr c.args.frame.now c.args.at _ c.deeper-2.ensures c.in_err-new.ensures) (q.1 ∙ ap Err q.2, refl))
 
-pub run_assign-returns : goal.run_assign-returns
-run_assign-returns t c =
+pub run_assigned-returns : goal.run_assigned-returns
+run_assigned-returns t c =
     λ e. assign_so (around c.args.frame.now c.args.at) e c.args.place.now c.args.value.now (Ok _) (deep_place c.args.frame.now c.args.at _ c.deeper.ensures c.in_ok-to.ensures) (value_goes (around c.args.frame.now c.args.at) c.args.place.now c.args.value.now _ (Ok _) (deep_expr c.args.frame.now c.args.at _ c.deeper-2.ensures c.in_ok-new.ensures) (assign_goes (around c.args.frame.now c.args.at) c.args.place.now.spot c.args.value.now.spot c.args.place.now.ty c.in_ok-to.to c.in_ok-new.new c.assign.ensures))
 
-pub run_update-returns-then-old : goal.run_update-returns-then-old
-run_update-returns-then-old t c =
+pub run_updated-returns-then-old : goal.run_updated-returns-then-old
+run_updated-returns-then-old t c =
     update_marked (around c.args.frame.now c.args.at) c.args.e.now c.args.op c.args.place.now c.args.value.now _ c.if-old.true c.run_postfix.ensures
 
-pub run_update-returns-in_err-to : goal.run_update-returns-in_err-to
-run_update-returns-in_err-to t c =
+pub run_updated-returns-in_err-to : goal.run_updated-returns-in_err-to
+run_updated-returns-in_err-to t c =
     let q = err_from_is_err_and c.from_residual.result c.from_residual.ensures.1 in
     update_marked (around c.args.frame.now c.args.at) c.args.e.now c.args.op c.args.place.now c.args.value.now _ c.if-old.false (update_so (around c.args.frame.now c.args.at) c.args.e.now c.args.op c.args.place.now c.args.value.now (Err _) (deep_place c.args.frame.now c.args.at _ c.deeper.ensures c.in_err-to.ensures) (q.1 ∙ ap Err q.2, refl))
 
-pub run_update-returns-in_err-operand : goal.run_update-returns-in_err-operand
-run_update-returns-in_err-operand t c =
+pub run_updated-returns-in_err-operand : goal.run_updated-returns-in_err-operand
+run_updated-returns-in_err-operand t c =
     let q = err_from_is_err_and c.from_residual-in_err-operand.result c.from_residual-in_err-operand.ensures.1 in
     update_marked (around c.args.frame.now c.args.at) c.args.e.now c.args.op c.args.place.now c.args.value.now _ c.if-old.false (update_so (around c.args.frame.now c.args.at) c.args.e.now c.args.op c.args.place.now c.args.value.now (Ok _) (deep_place c.args.frame.now c.args.at _ c.deeper.ensures c.in_ok-to.ensures) (operand_goes (around c.args.frame.now c.args.at) c.args.e.now c.args.op c.args.place.now c.args.value.now _ (Err _) (deep_expr c.args.frame.now c.args.at _ c.deeper-2.ensures c.in_err-operand.ensures) (q.1 ∙ ap Err q.2, refl)))
 
-pub run_update-returns : goal.run_update-returns
-run_update-returns t c =
+pub run_updated-returns : goal.run_updated-returns
+run_updated-returns t c =
     update_marked (around c.args.frame.now c.args.at) c.args.e.now c.args.op c.args.place.now c.args.value.now _ c.if-old.false (update_so (around c.args.frame.now c.args.at) c.args.e.now c.args.op c.args.place.now c.args.value.now (Ok _) (deep_place c.args.frame.now c.args.at _ c.deeper.ensures c.in_ok-to.ensures) (operand_goes (around c.args.frame.now c.args.at) c.args.e.now c.args.op c.args.place.now c.args.value.now _ (Ok _) (deep_expr c.args.frame.now c.args.at _ c.deeper-2.ensures c.in_ok-operand.ensures) (update_goes (around c.args.frame.now c.args.at) c.args.e.now.spot c.args.op c.args.place.now.spot c.args.place.now.ty c.args.value.now.ty c.in_ok-to.to c.in_ok-operand.operand c.update.ensures)))
 
 pub run_postfix-returns-in_err-to : goal.run_postfix-returns-in_err-to

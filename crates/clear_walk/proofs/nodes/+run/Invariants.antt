@@ -36,10 +36,16 @@ abbrev pub decreases-run_choice : goal.decreases-run_choice
 decreases-run_choice l = far l.frame.now l.at (max (expr_weight l.cond.now) (max (expr_weight l.yes.now) (expr_weight l.no.now)) + 1)
 
 abbrev pub decreases-run_assign : goal.decreases-run_assign
-decreases-run_assign l = far l.frame.now l.at (max (place_weight l.place.now) (expr_weight l.value.now) + 1)
+decreases-run_assign l = far l.frame.now l.at (max (place_weight l.place.now) (expr_weight l.value.now) + 2)
+
+abbrev pub decreases-run_assigned : goal.decreases-run_assigned
+decreases-run_assigned l = far l.frame.now l.at (max (place_weight l.place.now) (expr_weight l.value.now) + 1)
 
 abbrev pub decreases-run_update : goal.decreases-run_update
-decreases-run_update l = far l.frame.now l.at (max (place_weight l.place.now) (expr_weight l.value.now) + 2)
+decreases-run_update l = far l.frame.now l.at (max (place_weight l.place.now) (expr_weight l.value.now) + 3)
+
+abbrev pub decreases-run_updated : goal.decreases-run_updated
+decreases-run_updated l = far l.frame.now l.at (max (place_weight l.place.now) (expr_weight l.value.now) + 2)
 
 abbrev pub decreases-run_postfix : goal.decreases-run_postfix
 decreases-run_postfix l = far l.frame.now l.at (max (place_weight l.place.now) (expr_weight l.value.now) + 1)
