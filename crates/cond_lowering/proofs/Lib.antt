@@ -1,0 +1,9 @@
+pub mod Capped
+pub mod Weight
+pub mod Adding
+pub mod Views
+pub mod Loops
+pub mod Exits
+pub mod Parts
+pub mod Rounds
+pub mod Codes

@@ -1,0 +1,6 @@
+use Rattle.std.proofs.Common.{refl}
+use Rattle.cond_lowering.proofs.Adding.{told_as, seq_puts}
+use Rattle.cond_lowering.proofs.declares.emit_back_value.Goals as goal
+
+pub returns : goal.returns
+returns c = told_as _ _ _ _ c.put.result (seq_puts _ _ _ _ _ _ c.in_ok-emit_expr.ensures c.put.ensures) refl
